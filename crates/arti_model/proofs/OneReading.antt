@@ -1,8 +1,8 @@
 -- Bytes begin with one thing, and are requests in one way.
-use Rattle.std.proofs.Common.{◌≡◌, ◌≢◌, ℕ, ◌+◌, ◌-◌, ◌<◌, ◌≤◌, ◌⊎◌, inl, inr, ⊎_elim, Bool, true, false, List, [], ◌∷◌, ◌++◌, length, take, drop, refl, sym, ap, ◌∙◌, subst, arith, length-append, Option, Some, None}
+use Rattle.std.proofs.Common.{◌≡◌, ℕ, ◌-◌, ◌<◌, ◌⊎◌, inl, inr, Bool, true, false, List, [], ◌∷◌, ◌++◌, length, take, drop, refl, sym, ap, ◌∙◌, subst, arith, length-append}
 use Rattle.std.specs.Prelude.{MatchBool}
 use Rattle.std.proofs.Math.Seq.{take-append_seam, drop-append_seam}
-use Rattle.httparse.specs.Grammar.{ReadsRequest, RequestHead}
+use Rattle.httparse.specs.Grammar.{RequestHead}
 use Rattle.httparse.proofs.GrammarLemmas.{request_unique}
 use Rattle.arti_model.specs.declared.Why.{Why}
 use Rattle.arti_model.specs.Requests.{Request, Whole, Ending, End, Cut, Bad, TooMany, Start, AtEnd, AtCut, AtBad, Head, StartsWithHead, HasNoHead, start_with, start_without, is_line_byte, StartsAt, skip, Begins, EndsSo, RequestBytes}
@@ -81,7 +81,7 @@ begun_goes_on content most bytes Cut q body after some head (positive, inl y) =
     let e = begins_once content bytes AtCut (Head q (length body) (body ++ after)) y head in cc
 begun_goes_on content most bytes Cut q body after some head (positive, inr y) =
     let same : Head q (length body) (body ++ after) ≡ Head y.0 y.1 y.2 =
-        begins_once content bytes (Head q (length body) (body ++ after)) (Head y.0 y.1 y.2) head y.3 in
+    begins_once content bytes (Head q (length body) (body ++ after)) (Head y.0 y.1 y.2) head y.3 in
     let size : length body ≡ y.1 = cc in
     let rest : body ++ after ≡ y.2 = cc in
     omega (arith, y.4, ap length rest, length-append body after)
@@ -99,9 +99,9 @@ same_first content bytes q r a b x y =
     let size : length q.body ≡ length r.body = cc in
     let rest : q.body ++ a ≡ r.body ++ b = cc in
     let body : q.body ≡ r.body =
-        sym (take-append_seam q.body a) ∙ ap (take (length q.body)) rest ∙ ap (λ n. take n (r.body ++ b)) size ∙ take-append_seam r.body b in
+    sym (take-append_seam q.body a) ∙ ap (take (length q.body)) rest ∙ ap (λ n. take n (r.body ++ b)) size ∙ take-append_seam r.body b in
     let after : a ≡ b =
-        sym (drop-append_seam q.body a) ∙ ap (drop (length q.body)) rest ∙ ap (λ n. drop n (r.body ++ b)) size ∙ drop-append_seam r.body b in
+    sym (drop-append_seam q.body a) ∙ ap (drop (length q.body)) rest ∙ ap (λ n. drop n (r.body ++ b)) size ∙ drop-append_seam r.body b in
     ((λ i. record { head = head i; body = body i }), after)
 
 -- the same of the rest behind a first request
@@ -121,7 +121,7 @@ reads_once content most bytes (q ∷ qs) [] e f x y =
 reads_once content most bytes (q ∷ qs) (r ∷ rs) e f x y =
     let first = same_first content bytes q r x.0 y.0 x.2 y.2 in
     let go : RequestBytes content (most - 1) x.0 qs e → RequestBytes content (most - 1) y.0 rs f → (qs ≡ rs) × (e ≡ f) =
-        λ u v. reads_once content (most - 1) x.0 qs rs e f u (subst (λ bs. RequestBytes content (most - 1) bs rs f) (sym first.1) v) in
+    λ u v. reads_once content (most - 1) x.0 qs rs e f u (subst (λ bs. RequestBytes content (most - 1) bs rs f) (sym first.1) v) in
     let y3 = subst (λ (w : Whole). MatchBool w.head.last ((rs ≡ []) × (f ≡ End)) (RequestBytes content (most - 1) y.0 rs f)) (sym first.0) y.3 in
     let rest = rest_once q.head.last qs rs e f _ _ go x.3 y3 in
     ((λ i. first.0 i ∷ rest.0 i), rest.1)

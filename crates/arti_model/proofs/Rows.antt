@@ -1,11 +1,11 @@
 -- The definitions, computed on small texts.
-use Rattle.std.proofs.Common.{◌≡◌, ℕ, ◌+◌, ◌<◌, ◌≤◌, Bool, true, false, List, [], ◌∷◌, ◌++◌, length, refl, Option, Some, None}
+use Rattle.std.proofs.Common.{◌≡◌, true, false, [], ◌∷◌, ◌++◌, refl, Some, None}
 use Rattle.std.specs.Prelude.{codes}
+use Rattle.std.specs.Fmt.{digits}
 use Rattle.httparse.specs.Grammar.{trim_ows}
-use Rattle.arti_model.specs.Requests.{FieldText, skip, lines_before_empty, body_fault, body_length, has_close, starts_line_end, tokens}
-use Rattle.arti_model.specs.declared.Why.{Why}
-use Rattle.arti_model.specs.declared.Why.TheVariants.{BadHead, HeadTooLarge, BadLength, UnknownCoding, BodyTooLarge}
-
+use Rattle.arti_model.specs.Replies.{head_bytes, status_line}
+use Rattle.arti_model.specs.Requests.{skip, lines_before_empty, body_fault, body_length, has_close}
+use Rattle.arti_model.specs.declared.Why.TheVariants.{BadLength, UnknownCoding, BodyTooLarge}
 
 none_after_one_line : lines_before_empty (codes "x" ++ 13 ∷ 10 ∷ []) ≡ None
 none_after_one_line = refl
@@ -47,3 +47,17 @@ closing = refl
 not_closing : has_close ((codes "connection", codes "closed, x") ∷ []) ≡ false
 unfolding trim_ows
 not_closing = refl
+
+-- the head of a reply without a body
+no_content : head_bytes 204 (codes "text/plain") None 5 ≡ codes "HTTP/1.1 204 No Content" ++ 13 ∷ 10 ∷ 13 ∷ 10 ∷ []
+unfolding digits
+no_content = refl
+
+-- a head with a length
+created : head_bytes 201 (codes "application/json") None 295 ≡ codes "HTTP/1.1 201 Created\r\nContent-Type: application/json\r\nContent-Length: 295\r\n\r\n"
+unfolding digits
+created = refl
+
+too_large_reply : status_line 413 ≡ codes "HTTP/1.1 413 Payload Too Large\r\n"
+unfolding digits
+too_large_reply = refl

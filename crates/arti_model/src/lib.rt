@@ -22,12 +22,10 @@ pub enum Why {
 /// Bytes begin with one thing.
 pub fn bytes_begin_with_one_thing()
     ensures { (content : ℕ) (bytes : List ℕ) (s t : Start) → Begins content bytes s → Begins content bytes t → s ≡ t }
-{
-}
+{}
 
 /// Bytes are requests, and end, in one way.
 pub fn bytes_are_read_in_one_way()
     ensures { (content most : ℕ) (bytes : List ℕ) (qs rs : List Whole) (e f : Ending)
         → RequestBytes content most bytes qs e → RequestBytes content most bytes rs f → (qs ≡ rs) × (e ≡ f) }
-{
-}
+{}
