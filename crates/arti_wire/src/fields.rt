@@ -1,5 +1,5 @@
 // What the fields of a head say of its body and of the stream.
-ghost use Rattle.std.specs.Prelude.{◌≡◌, ℕ, ◌<◌, ◌≤◌, List, IsTrue, Some, None, MatchOption, true, codes, reverse};
+ghost use Rattle.std.specs.Prelude.{◌≡◌, ℕ, ◌<◌, ◌≤◌, List, IsTrue, Some, None, IfOk, IfErr, codes, reverse};
 ghost use Rattle.std.specs.List.{list_any, list_all};
 ghost use Rattle.std.specs.Option.{option_copied};
 ghost use Rattle.std.specs.Str.{bytes_eq, str_eq_ignore_ascii_case};
@@ -107,4 +107,77 @@ fn trim(bytes: &[u8]) -> &[u8]
     ensures { result.now ≡ trim_ows bytes.now }
 {
     trim_end(trim_start(bytes))
+}
+
+// Whether the token is `close`, without ASCII case.
+fn is_close(token: &[u8]) -> bool
+    ensures { result ≡ str_eq_ignore_ascii_case (trim_ows token.now) (codes "close") }
+{
+    trim(token).eq_ignore_ascii_case(b"close")
+}
+
+// Whether a list with commas has the token `close`.
+fn lists_close(value: &[u8]) -> bool
+    ensures { result ≡ list_any (λ token. str_eq_ignore_ascii_case token (codes "close")) (tokens value.now) }
+{
+    value.split(|b| *b == b',').any(|token| is_close(token))
+}
+
+/// Whether the request is the last of its stream (RFC 9112, section 9.6).
+pub fn asks_close(fields: &[Field]) -> bool
+    ensures { result ≡ has_close (texts_of fields.now) }
+{
+    for field in fields {
+        if is_named(field, CONNECTION) && lists_close(field.1.as_slice()) {
+            return true;
+        }
+    }
+    false
+}
+
+// Whether the fields give one length, or none.
+fn has_one_length(fields: &[Field]) -> bool
+    ensures { result ≡ is_one_length (values_of (codes "Content-Length") (texts_of fields.now)) }
+{
+    match first_of(fields, CONTENT_LENGTH) {
+        Some(value) => is_number(value) && all_are(fields, CONTENT_LENGTH, value),
+        None => true,
+    }
+}
+
+// Whether some field has that name.
+fn has_field(fields: &[Field], name: &str) -> bool
+    ensures { result ≡ has_some (values_of name.now (texts_of fields.now)) }
+{
+    first_of(fields, name).is_some()
+}
+
+/// The length of the body, 0 where no field gives one.
+pub fn length_of_body(fields: &[Field]) -> u64
+    requires { IsTrue (is_one_length (values_of (codes "Content-Length") (texts_of fields.now))) }
+    ensures { result ≡ body_length (texts_of fields.now) }
+{
+    match first_of(fields, CONTENT_LENGTH) {
+        Some(value) => number(value),
+        None => 0,
+    }
+}
+
+/// The length of the body, or what is wrong with it.
+pub fn body_of(fields: &[Field], content: u64) -> Result<u64, Why>
+    ensures length { IfOk result (λ n. (body_fault content (texts_of fields.now) ≡ None) × (n ≡ body_length (texts_of fields.now))) }
+    ensures fault { IfErr result (λ why. body_fault content (texts_of fields.now) ≡ Some why) }
+{
+    let is_coded = has_field(fields, TRANSFER_ENCODING);
+    if !has_one_length(fields) || (has_field(fields, CONTENT_LENGTH) && is_coded) {
+        return Err(Why::BadLength);
+    }
+    if is_coded {
+        return Err(Why::UnknownCoding);
+    }
+    let length = length_of_body(fields);
+    if length > content {
+        return Err(Why::BodyTooLarge);
+    }
+    Ok(length)
 }
