@@ -29,3 +29,14 @@ pub fn bytes_are_read_in_one_way()
     ensures { (content most : ℕ) (bytes : List ℕ) (qs rs : List Whole) (e f : Ending)
         → RequestBytes content most bytes qs e → RequestBytes content most bytes rs f → (qs ≡ rs) × (e ≡ f) }
 {}
+
+ghost use Rattle.std.specs.Prelude.{ℤ};
+ghost use Rattle.arti_rows.specs.declared.limits.Limits.{Limits};
+ghost use Rattle.arti_model.specs.Store.{Repository};
+ghost use Rattle.arti_model.specs.Run.{AnswersAll, run_bytes};
+
+/// The bytes of a run are determined, where no request found too little memory.
+pub fn steps_answer_all()
+    ensures { (limits : Limits) (moments : List ℤ) (r : Repository) (qs : List Whole) (ending : Ending)
+        → AnswersAll limits moments r qs ending (run_bytes limits moments r qs ending) }
+{}
