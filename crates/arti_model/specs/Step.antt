@@ -5,12 +5,12 @@ use Rattle.std.specs.Cmp.Lexicographic.{pointwise}
 use Rattle.md5.specs.Md5.{md5}
 use Rattle.sha1.specs.Sha1.{sha1}
 use Rattle.sha2.specs.Sha256.{sha256}
-use Rattle.arti_rows.specs.Key.{Key, key_of}
+use Rattle.arti_rows.specs.Key.{Key, key_of, folders_above}
 use Rattle.arti_rows.specs.Names.{is_repo_byte, path_fault}
 use Rattle.arti_rows.specs.declared.limits.Limits.{Limits}
 use Rattle.arti_rows.specs.declared.rows.Digests.{Digests}
 use Rattle.arti_model.specs.Requests.{Request, Whole, FieldText, values_of, has_some}
-use Rattle.arti_model.specs.Store.{Repository, Item, File, find_item, has_file, has_item, folders_above}
+use Rattle.arti_model.specs.Store.{Repository, Item, File, find_item, has_file, has_item}
 use Rattle.arti_model.specs.Bodies.{refused, json_reply, deploy_body, content_reply, item_text}
 
 -- a repository after a request, and the reply

@@ -1,8 +1,8 @@
 -- The repository: lists of rows, without index.
-use Rattle.std.specs.Prelude.{◌≡◌, ℕ, ◌+◌, ℤ, Bool, true, false, ◌&&◌, ◌==◌, nat_eq, if◌then◌else◌, List, [], ◌∷◌, ◌++◌, length, map, filter, Option, Some, None, is_some, is_none}
+use Rattle.std.specs.Prelude.{ℕ, ℤ, Bool, ◌&&◌, nat_eq, List, [], Option, is_some}
 use Rattle.std.specs.List.{find, list_any}
 use Rattle.std.specs.Cmp.Lexicographic.{pointwise}
-use Rattle.arti_rows.specs.Key.{Key, key_of, whole_of}
+use Rattle.arti_rows.specs.Key.{Key}
 use Rattle.arti_rows.specs.declared.rows.Digests.{Digests}
 use Rattle.arti_rows.specs.declared.rows.Given.{Given}
 use Rattle.arti_rows.specs.declared.rows.Property.{Property}
@@ -55,14 +55,3 @@ has_file items key = list_any (λ item. same_key item.key key && is_file item) i
 -- whether something stands at the key
 abbrev pub has_item : List Item → Key → Bool
 has_item items key = list_any (λ item. same_key item.key key) items
-
--- ---- folders
-
--- the fronts of a path before each of its slashes
-abbrev pub fronts : List ℕ → List (List ℕ)
-fronts [] = []
-fronts (b ∷ bytes) = if b == 47 then [] ∷ map (λ front. b ∷ front) (fronts bytes) else map (λ front. b ∷ front) (fronts bytes)
-
--- the folders above a key, the topmost first
-abbrev pub folders_above : Key → List Key
-folders_above key = map (λ front. key_of key.repo front) (fronts (whole_of key))

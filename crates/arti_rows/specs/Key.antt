@@ -1,5 +1,5 @@
 -- What contracts see of an item's key.
-use Rattle.std.specs.Prelude.{◌≡◌, MatchBool, ℕ, ◌==◌, not, if◌then◌else◌, List, [], ◌∷◌, ◌++◌, codes, nat_eq}
+use Rattle.std.specs.Prelude.{◌≡◌, MatchBool, ℕ, ◌==◌, not, if◌then◌else◌, map, List, [], ◌∷◌, ◌++◌, codes, nat_eq}
 use Rattle.std.specs.List.{list_any, before_last, after_last}
 use Rattle.std.specs.Cmp.Lexicographic.{pointwise}
 
@@ -32,3 +32,12 @@ key_of repo whole = record { repo = repo; path = path_of whole; name = name_of w
 -- path and name were cut at a slash, or the whole is the name
 abbrev pub Rejoins : List ℕ → List ℕ → List ℕ → Type 0
 Rejoins whole path name = MatchBool (list_any (λ b. b == 47) whole) (whole ≡ path ++ 47 ∷ name) (whole ≡ name)
+
+-- the fronts of a path before each of its slashes, the shortest first
+abbrev pub fronts : List ℕ → List (List ℕ)
+fronts [] = []
+fronts (b ∷ bytes) = if b == 47 then [] ∷ map (λ front. b ∷ front) (fronts bytes) else map (λ front. b ∷ front) (fronts bytes)
+
+-- the folders above a key, the topmost first
+abbrev pub folders_above : Key → List Key
+folders_above k = map (λ front. key_of k.repo front) (fronts (whole_of k))

@@ -1,6 +1,6 @@
 // The keys of items.
-ghost use Rattle.std.specs.Prelude.{◌≡◌, ◌+◌, ◌==◌, ◌||◌, nat_lt, if◌then◌else◌, IfOk, OnOk, Some, None, IsErrOf, IsTrue, length};
-ghost use Rattle.arti_rows.specs.Key.{key_of, path_of, name_of, Rejoins};
+ghost use Rattle.std.specs.Prelude.{◌≡◌, ◌+◌, ◌<◌, ◌==◌, ◌||◌, ◌++◌, ◌∷◌, nat_lt, if◌then◌else◌, map, take, slice_index, IfOk, OnOk, Some, None, IsErrOf, IsTrue, length};
+ghost use Rattle.arti_rows.specs.Key.{key_of, whole_of, fronts, folders_above, path_of, name_of, Rejoins};
 ghost use Rattle.arti_rows.specs.Names.{is_repo_key, is_repo_byte, reserved_keys, dot_names, is_one_of, barred_marks, is_barred_byte, has_good_name, segment_fault, path_fault, key_fault, IsKey};
 ghost use Rattle.std.specs.List.{list_all, list_any};
 
@@ -61,6 +61,24 @@ impl ItemKey {
             path: Text::from_str(alloc, path)?,
             name: Text::from_str(alloc, name)?,
         })
+    }
+
+    /// Path and name joined by a slash; at the root it is the name alone.
+    pub fn whole(&self, alloc: Global) -> Result<Text, AllocError>
+        ensures { IfOk result (λ t. t ≡ whole_of self.now) }
+    {
+        if self.path.as_str() == "." {
+            return self.name.clone();
+        }
+        joined(alloc, self.path.as_str(), self.name.as_str())
+    }
+
+    /// The folders above it, the topmost first.
+    pub fn folders(&self, alloc: Global) -> Result<Vec<ItemKey>, AllocError>
+        ensures { IfOk result (λ v. v.items ≡ folders_above self.now) }
+    {
+        let whole = self.whole(alloc)?;
+        folders_of(alloc, self.repo.as_str(), whole.as_str())
     }
 
     /// The rules that each key keeps.
@@ -202,4 +220,43 @@ fn cut(whole: &str) -> (&str, &str)
         Some(parts) => parts,
         None => (".", whole),
     }
+}
+
+// Two texts with a slash between them.
+fn joined(alloc: Global, path: &str, name: &str) -> Result<Text, AllocError>
+    ensures { IfOk result (λ t. t ≡ path.now ++ 47 ∷ name.now) }
+{
+    let mut whole = String::from_str(alloc, path)?;
+    whole.push_str("/")?;
+    whole.push_str(name)?;
+    Ok(Text::from_string(whole))
+}
+
+// The folders that a good path and name joined lies in.
+fn folders_of(alloc: Global, repo: &str, whole: &str) -> Result<Vec<ItemKey>, AllocError>
+    requires { key_fault repo.now whole.now ≡ None }
+    ensures { IfOk result (λ v. v.items ≡ map (λ front. key_of repo.now front) (fronts whole.now)) }
+{
+    let mut folders = Vec::new(alloc);
+    for (i, b) in whole.as_bytes().iter().enumerate() {
+        if *b == b'/' {
+            folders.push(folder_at(alloc, repo, whole, i)?)?;
+        }
+    }
+    Ok(folders)
+}
+
+// The folder whose path and name end before that slash.
+fn folder_at(alloc: Global, repo: &str, whole: &str, i: usize) -> Result<ItemKey, AllocError>
+    requires good { key_fault repo.now whole.now ≡ None }
+    requires within { i < length whole.now }
+    requires slash { slice_index whole.now i ≡ 47 }
+    ensures { IfOk result (λ k. k ≡ key_of repo.now (take i whole.now)) }
+{
+    let (path, name) = cut(&whole[..i]);
+    Ok(ItemKey {
+        repo: Text::from_str(alloc, repo)?,
+        path: Text::from_str(alloc, path)?,
+        name: Text::from_str(alloc, name)?,
+    })
 }
