@@ -35,19 +35,46 @@ fn images_of_each_moment(rt: HostRuntime) -> Result<(), Fail> {
                 assert_eq!(rt; &buf[..n], images[choice as usize]);
             }
             let mut torn = ground.after_crash(alloc, moment, 2)?;
-            assert_eq!(rt; torn.length(1)?, images[1].len() as u64);
+            let mut buf = [9u8; 8];
+            let n = torn.read(1, 0, &mut buf)?;
+            assert_eq!(rt; n, images[1].len());
+            for (byte, (old, new)) in buf.iter().zip(images[0].iter().zip(images[1])) {
+                assert!(rt; byte == old || byte == new || *byte == 0);
+            }
+            assert_eq!(rt; torn.moments(), 2);
         }
     }
     Ok(())
 }
 
 #[test]
-fn a_chosen_call_fails(rt: HostRuntime) -> Result<(), Fail> {
+fn a_chosen_call_fails_and_leaves_all(rt: HostRuntime) -> Result<(), Fail> {
     let alloc = rt.alloc();
-    let mut failing = Vec::new(alloc);
-    failing.push(2u64)?;
-    let mut ground = FaultyGround::new(alloc, 100, 1000, failing)?;
-    assert_eq!(rt; exercise(&mut ground), Err(Failed));
+    for number in 0..5u64 {
+        let failing = [number].to_vec(alloc)?;
+        let mut ground = FaultyGround::new(alloc, 100, 1000, failing)?;
+        let expected = if number < 4 { Err(Failed) } else { Ok(()) };
+        assert_eq!(rt; exercise(&mut ground), expected);
+        assert_eq!(rt; ground.moments(), number + 1);
+        let told: &[u8] = if number < 4 { b"" } else { b"hello" };
+        assert_eq!(rt; ground.told(alloc, 0)?.as_slice(), told);
+        let mut whole = ground.after_crash(alloc, number, 1)?;
+        let length = if number == 0 { 0 } else { 3 };
+        assert_eq!(rt; whole.length(1)?, length);
+    }
+    Ok(())
+}
+
+#[test]
+fn a_call_past_the_room_fails(rt: HostRuntime) -> Result<(), Fail> {
+    let alloc = rt.alloc();
+    let mut few_calls = MemoryGround::new(alloc, 3, 1000)?;
+    assert_eq!(rt; exercise(&mut few_calls), Err(Failed));
+    assert_eq!(rt; few_calls.moments(), 4);
+    let mut few_bytes = MemoryGround::new(alloc, 100, 4)?;
+    assert_eq!(rt; exercise(&mut few_bytes), Err(Failed));
+    assert_eq!(rt; few_bytes.moments(), 3);
+    assert_eq!(rt; few_bytes.length(1), Ok(3));
     Ok(())
 }
 
