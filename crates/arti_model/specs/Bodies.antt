@@ -1,5 +1,5 @@
 -- The bodies of replies: JSON (RFC 8259) with its members in a stated order and no spaces.
-use Rattle.std.specs.Prelude.{ℕ, List, [], ◌∷◌, ◌++◌, length, map, codes, decimal, flat_map, Option, Some, None}
+use Rattle.std.specs.Prelude.{ℕ, ℤ, List, [], ◌∷◌, ◌++◌, length, map, codes, decimal, flat_map, Option, Some, None}
 use Rattle.json.specs.Print.{quoted}
 use Rattle.hex.specs.Hex.{encode_lower}
 use Rattle.arti_time.specs.Printed.{printed}
@@ -22,16 +22,20 @@ abbrev pub digest_members : Digests → List (List ℕ × List ℕ)
 digest_members d = (codes "md5", encode_lower d.md5) ∷ (codes "sha1", encode_lower d.sha1) ∷ (codes "sha256", encode_lower d.sha256) ∷ []
 
 -- what a deploy tells of the item
-abbrev pub item_members : Item → ℕ → List (List ℕ × List ℕ)
-item_members item size =
-    (codes "repo", item.key.repo) ∷ (codes "path", 47 ∷ whole_of item.key) ∷ (codes "created", printed item.created)
-    ∷ (codes "createdBy", item.created_by) ∷ (codes "size", decimal size) ∷ []
+abbrev pub deployed_members : Key → ℤ → List ℕ → ℕ → List (List ℕ × List ℕ)
+deployed_members key created created_by size =
+    (codes "repo", key.repo) ∷ (codes "path", 47 ∷ whole_of key) ∷ (codes "created", printed created)
+    ∷ (codes "createdBy", created_by) ∷ (codes "size", decimal size) ∷ []
+
+-- the body that tells of a deployed item
+abbrev pub deployed_body : Key → ℤ → List ℕ → ℕ → Digests → List ℕ
+deployed_body key created created_by size digests =
+    123 ∷ (text_members (deployed_members key created created_by size)
+    ++ codes ",\"checksums\":{" ++ text_members (digest_members digests) ++ codes "}}")
 
 -- the body that answers a deploy
 abbrev pub deploy_body : Item → File → List ℕ
-deploy_body item file =
-    123 ∷ (text_members (item_members item (length file.content))
-    ++ codes ",\"checksums\":{" ++ text_members (digest_members file.digests) ++ codes "}}")
+deploy_body item file = deployed_body item.key item.created item.created_by (length file.content) file.digests
 
 -- the body that answers a refused request
 abbrev pub error_body : ℕ → List ℕ → List ℕ
