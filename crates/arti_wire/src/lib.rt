@@ -2,5 +2,8 @@
 #![tactic(auto)]
 
 mod fields;
+mod head;
 
 pub use arti_model::Why;
+pub use fields::Field;
+pub use head::Request;
