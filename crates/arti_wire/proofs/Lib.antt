@@ -1,2 +1,3 @@
 mod DigitLemmas
 pub mod HeadLemmas
+pub mod EmptyLines

@@ -3,6 +3,7 @@
 
 mod fields;
 mod head;
+mod lines;
 
 pub use arti_model::Why;
 pub use fields::Field;
