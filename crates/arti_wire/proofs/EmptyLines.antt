@@ -1,13 +1,13 @@
 -- The search for the first empty line, from one LF to the next.
-use Rattle.std.proofs.Common.{◌≡◌, ◌≢◌, ℕ, zero, suc, ◌+◌, ◌-◌, ◌<◌, ◌≤◌, Bool, true, false, List, [], ◌∷◌, ◌++◌, length, take, drop, get_or, refl, sym, ap, ◌∙◌, subst, arith, length-append, Option, Some, None}
+use Rattle.std.proofs.Common.{◌≡◌, ◌≢◌, ℕ, zero, suc, ◌+◌, ◌-◌, ◌<◌, ◌≤◌, Bool, true, false, List, [], ◌∷◌, ◌++◌, length, take, drop, get_or, refl, sym, ap, ◌∙◌, subst, inl, inr, ◌⊎◌, arith, append_assoc, append-nil, length-append, Option, Some, None}
 use Rattle.std.specs.Prelude.{option_map, ◌==◌, if◌then◌else◌}
-use Rattle.std.proofs.lemmas.Bool.{ne_eqb, eqb-true, eq-eqb, eqb-false}
+use Rattle.std.proofs.lemmas.Bool.{true≢false, ne_eqb, eqb-true, eq-eqb}
 use Rattle.memchr.specs.Find.{IsFirstByte, Nowhere, NoneBefore, Passes, is_byte}
-use Rattle.std.specs.Prelude.{All}
-use Rattle.std.proofs.lemmas.List.{length-take-le, take-append-drop, get_or-take}
-use Rattle.std.proofs.Math.Seq.{drop-cons}
+use Rattle.std.specs.Prelude.{All, is_some}
+use Rattle.std.proofs.lemmas.List.{length-take-le, take-append-drop, get_or-take, drop-drop, drop_all}
+use Rattle.std.proofs.Math.Seq.{drop-cons, drop-append_seam}
 use Rattle.std.proofs.lemmas.List.Elements.{All-head, All-tail, All-from_get_or}
-use Rattle.arti_wire.specs.Lines.{IsBehindLine}
+use Rattle.arti_wire.specs.Lines.{IsBehindLine, SameSearch}
 use Rattle.arti_model.specs.Requests.{starts_line_end, lines_before_empty}
 
 map_same : (o : Option ℕ) → option_map (λ n. n) o ≡ o
@@ -76,3 +76,74 @@ lines_found rest after lines all step is so = rw (step, is) at so
 pub lines_more : (rest after : List ℕ) (lines : ℕ) (all : Option ℕ) → lines_before_empty rest ≡ lines_after_lf after → starts_line_end after ≡ false
     → option_map (λ n. lines + n) (lines_before_empty rest) ≡ all → option_map (λ n. (lines + 1) + n) (lines_before_empty after) ≡ all
 lines_more rest after lines all step not so = sym (map_next lines (lines_before_empty after)) ∙ rw (step, not) at so
+
+-- ---- an empty line in what stands from a place on
+
+none_from_false : (o : Option ℕ) → is_some o ≡ false → o ≡ None
+none_from_false None h = refl
+none_from_false (Some n) h = absurd (true≢false h)
+
+plain_front : (front rest : List ℕ) → All (λ b. b ≢ 10) front → lines_before_empty (front ++ rest) ≡ lines_before_empty rest
+plain_front [] rest plain = refl
+plain_front (b ∷ front) rest plain =
+    lines_at_other b (front ++ rest) (All-head (λ b. b ≢ 10) b front plain)
+    ∙ plain_front front rest (All-tail (λ b. b ≢ 10) b front plain)
+
+some_next : (o : Option ℕ) → is_some (option_map (λ n. n + 1) o) ≡ is_some o
+some_next None = refl
+some_next (Some n) = refl
+
+after_other : (bytes : List ℕ) → starts_line_end bytes ≡ false → is_some (lines_before_empty (10 ∷ bytes)) ≡ is_some (lines_before_empty bytes)
+after_other bytes not = rw not (some_next (lines_before_empty bytes))
+
+-- the search may go on at the LF
+at_lf : (xs rest after : List ℕ) → SameSearch xs rest → IsBehindLine rest after → SameSearch xs (10 ∷ after)
+at_lf xs rest after same behind more =
+    same more
+    ∙ ap (λ r. is_some (lines_before_empty (r ++ more))) behind.split
+    ∙ ap (λ r. is_some (lines_before_empty r)) (append_assoc behind.front (10 ∷ after) more)
+    ∙ ap is_some (plain_front behind.front ((10 ∷ after) ++ more) behind.plain)
+
+whole_search : (xs ys : List ℕ) → SameSearch xs ys → is_some (lines_before_empty xs) ≡ is_some (lines_before_empty ys)
+whole_search xs ys same =
+    ap (λ r. is_some (lines_before_empty r)) (sym (append-nil xs)) ∙ same [] ∙ ap (λ r. is_some (lines_before_empty r)) (append-nil ys)
+
+pub search_found : (xs rest after : List ℕ) → SameSearch xs rest → IsBehindLine rest after → starts_line_end after ≡ true → is_some (lines_before_empty xs) ≡ true
+search_found xs rest after same behind is =
+    whole_search xs (10 ∷ after) (at_lf xs rest after same behind) ∙ rw is refl
+
+pub search_open : (xs rest after : List ℕ) → SameSearch xs rest → IsBehindLine rest after → (after ≡ []) ⊎ (after ≡ 13 ∷ []) → lines_before_empty xs ≡ None
+search_open xs rest after same behind (inl is) =
+    none_from_false _ (whole_search xs (10 ∷ after) (at_lf xs rest after same behind) ∙ ap (λ r. is_some (lines_before_empty (10 ∷ r))) is)
+search_open xs rest after same behind (inr is) =
+    none_from_false _ (whole_search xs (10 ∷ after) (at_lf xs rest after same behind) ∙ ap (λ r. is_some (lines_before_empty (10 ∷ r))) is)
+
+-- a part from some place on, and a part of that
+part_of_part : (bytes rest front more : List ℕ) → rest ≡ drop (length bytes - length rest) bytes → length rest ≤ length bytes → rest ≡ front ++ more
+    → more ≡ drop (length bytes - length more) bytes
+part_of_part bytes rest front more place fits split =
+    let size = ap length split ∙ length-append front more in
+    let sum : (length bytes - length rest) + length front ≡ length bytes - length more = omega (arith, size) in
+    sym (drop-append_seam front more) ∙ ap (drop (length front)) (sym split ∙ place) ∙ drop-drop (length front) (length bytes - length rest) bytes ∙ ap (λ n. drop n bytes) sum
+
+pub search_open_on : (xs bytes rest after : List ℕ) → rest ≡ drop (length bytes - length rest) bytes → length rest ≤ length bytes → SameSearch xs rest → IsBehindLine rest after
+    → SameSearch xs (drop (length bytes - length after - 1) bytes)
+search_open_on xs bytes rest after place fits same behind =
+    let number : length bytes - length (10 ∷ after) ≡ length bytes - length after - 1 = omega arith in
+    subst (SameSearch xs) (part_of_part bytes rest behind.front (10 ∷ after) place fits behind.split ∙ ap (λ n. drop n bytes) number) (at_lf xs rest after same behind)
+
+pub search_other : (xs rest after : List ℕ) → SameSearch xs rest → IsBehindLine rest after → ((more : List ℕ) → starts_line_end (after ++ more) ≡ false) → SameSearch xs after
+search_other xs rest after same behind other more = at_lf xs rest after same behind more ∙ after_other (after ++ more) (other more)
+
+pub search_place : (bytes rest after : List ℕ) → rest ≡ drop (length bytes - length rest) bytes → length rest ≤ length bytes → IsBehindLine rest after
+    → after ≡ drop (length bytes - length after) bytes
+search_place bytes rest after place fits behind =
+    part_of_part bytes rest (behind.front ++ 10 ∷ []) after place fits (behind.split ∙ sym (append_assoc behind.front (10 ∷ []) after))
+
+pub search_end : (xs rest : List ℕ) → SameSearch xs rest → All (λ b. b ≢ 10) rest → lines_before_empty xs ≡ None
+search_end xs rest same plain =
+    none_from_false _ (whole_search xs rest same ∙ ap is_some (no_lines rest plain))
+
+pub search_end_on : (xs rest bytes : List ℕ) → SameSearch xs rest → All (λ b. b ≢ 10) rest → SameSearch xs (drop (length bytes) bytes)
+search_end_on xs rest bytes same plain more =
+    same more ∙ ap is_some (plain_front rest more plain) ∙ ap (λ r. is_some (lines_before_empty (r ++ more))) (sym (drop_all (length bytes) bytes (omega arith)))
