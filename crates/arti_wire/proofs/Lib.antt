@@ -1,3 +1,4 @@
 mod DigitLemmas
 pub mod HeadLemmas
 pub mod EmptyLines
+pub mod HeadEnds
