@@ -2,3 +2,4 @@ mod DigitLemmas
 pub mod HeadLemmas
 pub mod EmptyLines
 pub mod HeadEnds
+pub mod Fronts
