@@ -3,3 +3,4 @@ pub mod HeadLemmas
 pub mod EmptyLines
 pub mod HeadEnds
 pub mod Fronts
+pub mod AheadLemmas

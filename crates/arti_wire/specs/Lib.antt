@@ -2,3 +2,4 @@ pub mod Fields
 pub mod Heads
 pub mod Lines
 pub mod Ahead
+pub mod Judged
