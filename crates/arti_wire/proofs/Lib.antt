@@ -1,1 +1,6 @@
 mod DigitLemmas
+pub mod HeadLemmas
+pub mod EmptyLines
+pub mod HeadEnds
+pub mod Fronts
+pub mod AheadLemmas

@@ -1,1 +1,5 @@
 pub mod Fields
+pub mod Heads
+pub mod Lines
+pub mod Ahead
+pub mod Judged

@@ -166,6 +166,7 @@ pub fn length_of_body(fields: &[Field]) -> u64
 /// The length of the body, or what is wrong with it.
 pub fn body_of(fields: &[Field], content: u64) -> Result<u64, Why>
     ensures length { IfOk result (λ n. (body_fault content (texts_of fields.now) ≡ None) × (n ≡ body_length (texts_of fields.now))) }
+    ensures bound { IfOk result (λ n. n ≤ content) }
     ensures fault { IfErr result (λ why. body_fault content (texts_of fields.now) ≡ Some why) }
 {
     let is_coded = has_field(fields, TRANSFER_ENCODING);

@@ -1,6 +1,12 @@
 //! HTTP framing: the requests in a stream of bytes, and the heads of replies.
 #![tactic(auto)]
 
+mod ahead;
 mod fields;
+mod head;
+mod judge;
+mod lines;
 
 pub use arti_model::Why;
+pub use fields::Field;
+pub use head::Request;
