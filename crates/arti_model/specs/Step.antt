@@ -9,7 +9,8 @@ use Rattle.arti_rows.specs.Key.{Key, key_of, folders_above}
 use Rattle.arti_rows.specs.Names.{is_repo_byte, path_fault}
 use Rattle.arti_rows.specs.declared.limits.Limits.{Limits}
 use Rattle.arti_rows.specs.declared.rows.Digests.{Digests}
-use Rattle.arti_model.specs.Requests.{Request, Whole, FieldText, values_of, has_some}
+use Rattle.std.specs.Str.{str_eq_ignore_ascii_case}
+use Rattle.arti_model.specs.Requests.{Request, Whole, FieldText}
 use Rattle.arti_model.specs.Store.{Repository, Item, File, find_item, has_file, has_item}
 use Rattle.arti_model.specs.Bodies.{refused, json_reply, deploy_body, content_reply, item_text}
 
@@ -22,7 +23,7 @@ pub record Answer : Type 0 where
 
 -- some field has that name, without ASCII case
 abbrev pub has_field : List FieldText → List ℕ → Bool
-has_field fields name = has_some (values_of name fields)
+has_field fields name = list_any (λ (f : FieldText). str_eq_ignore_ascii_case f.0 name) fields
 
 -- fields whose meaning isn't built yet
 abbrev pub unbuilt_fields : List (List ℕ)

@@ -1,1 +1,2 @@
+mod Deploys
 mod Pieces
