@@ -4,3 +4,4 @@ pub mod EmptyLines
 pub mod HeadEnds
 pub mod Fronts
 pub mod AheadLemmas
+pub mod SkipLemmas

@@ -6,6 +6,7 @@ mod fields;
 mod head;
 mod judge;
 mod lines;
+mod reading;
 
 pub use arti_model::Why;
 pub use fields::Field;
