@@ -5,3 +5,4 @@ pub mod HeadEnds
 pub mod Fronts
 pub mod AheadLemmas
 pub mod SkipLemmas
+pub mod Begun

@@ -114,3 +114,22 @@ impl Ahead {
         Ok(self.fill(source)? > 0)
     }
 }
+
+impl Ahead {
+    /// Puts the next bytes into the buffer, from the bytes ahead or, where there are none, from the source.
+    pub fn give<S: Source>(&mut self, source: &mut S, buf: &mut [u8]) -> Result<usize, Failed>
+        ensures within { IfOk result (λ n. n ≤ length buf.new) }
+        ensures bytes { S.tells → IfOk result (λ n. self.old ++ S.left source.old ≡ take n buf.new ++ (self.new ++ S.left source.new)) }
+        ensures end { S.tells → IfOk result (λ n. n ≡ 0 → 0 < length buf.old → self.old ++ S.left source.old ≡ []) }
+        ensures cause { HasCause (S.faults source.old) (S.faults source.new) result }
+    {
+        let ahead = self.as_slice();
+        if ahead.is_empty() {
+            return source.read(buf);
+        }
+        let n = ahead.len().min(buf.len());
+        buf[..n].copy_from_slice(&ahead[..n]);
+        self.pass(n);
+        Ok(n)
+    }
+}

@@ -7,7 +7,9 @@ mod head;
 mod judge;
 mod lines;
 mod reading;
+mod wire;
 
 pub use arti_model::Why;
 pub use fields::Field;
 pub use head::Request;
+pub use wire::{NextHead, Phase, Piece, Wire, WireFault};
