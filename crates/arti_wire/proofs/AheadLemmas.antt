@@ -18,7 +18,7 @@ grow_range old new start end n order same =
     let sum : (end + n) - start ≡ size + n = omega arith in
     let place : start + size ≡ end = omega arith in
     let kept : take size (drop start new) ≡ take size (drop start old) =
-        sym (drop-take start size new) ∙ ap (λ m. drop start (take m new)) place ∙ ap (drop start) same ∙ ap (λ m. drop start (take m old)) (sym place) ∙ drop-take start size old in
+    sym (drop-take start size new) ∙ ap (λ m. drop start (take m new)) place ∙ ap (drop start) same ∙ ap (λ m. drop start (take m old)) (sym place) ∙ drop-take start size old in
     ap (λ m. take m (drop start new)) sum
     ∙ take-add size n (drop start new)
     ∙ ap (λ f. f ++ take n (drop size (drop start new))) kept

@@ -27,5 +27,5 @@ pub begins_ahead : (content : ℕ) (input first ahead left left' : List ℕ) (st
     → Begins content input (with_more start left')
 begins_ahead content input first ahead left left' start starts skipped front same decides h =
     let front' : take (length (starts.0 ∷ starts.1)) ahead ≡ starts.0 ∷ starts.1 =
-        ap (λ f. take (length f) ahead) (sym starts.2) ∙ front ∙ starts.2 in
+    ap (λ f. take (length f) ahead) (sym starts.2) ∙ front ∙ starts.2 in
     subst (λ bytes. StartsAt content bytes (with_more start left')) (same ∙ skipped) (starts_ahead content starts.0 starts.1 ahead left' start starts.3 front' decides h)

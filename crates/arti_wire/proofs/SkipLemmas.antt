@@ -35,13 +35,13 @@ rest_part zero bytes more = refl
 rest_part (suc most) [] more = let same : suc most ≡ suc most - 0 = omega arith in ap (λ m. Rest m more) same
 rest_part (suc most) (b ∷ bytes) more =
     ⊎_elim (λ (is : is_line_byte b ≡ true).
-        let fewer : suc most - suc (Ends most bytes) ≡ most - Ends most bytes = omega arith in
-        ap (λ n. drop n (b ∷ bytes ++ more)) (ends_yes most b (bytes ++ more) is)
-        ∙ rest_part most bytes more
-        ∙ sym (ap (λ n. Rest (suc most - n) (drop n (b ∷ bytes) ++ more)) (ends_yes most b bytes is) ∙ ap (λ m. Rest m (drop (Ends most bytes) bytes ++ more)) fewer))
+    let fewer : suc most - suc (Ends most bytes) ≡ most - Ends most bytes = omega arith in
+    ap (λ n. drop n (b ∷ bytes ++ more)) (ends_yes most b (bytes ++ more) is)
+    ∙ rest_part most bytes more
+    ∙ sym (ap (λ n. Rest (suc most - n) (drop n (b ∷ bytes) ++ more)) (ends_yes most b bytes is) ∙ ap (λ m. Rest m (drop (Ends most bytes) bytes ++ more)) fewer))
     (λ (not : is_line_byte b ≡ false).
-        let same : suc most - 0 ≡ suc most = omega arith in
-        sym (ap (λ n. Rest (suc most - n) (drop n (b ∷ bytes) ++ more)) (ends_no most b bytes not) ∙ ap (λ m. Rest m (b ∷ bytes ++ more)) same))
+    let same : suc most - 0 ≡ suc most = omega arith in
+    sym (ap (λ n. Rest (suc most - n) (drop n (b ∷ bytes) ++ more)) (ends_no most b bytes not) ∙ ap (λ m. Rest m (b ∷ bytes ++ more)) same))
     (cases_Bool (is_line_byte b))
 
 -- where a byte is left, nothing more is passed over
@@ -51,19 +51,19 @@ rest_stays zero bytes more left = refl
 rest_stays (suc most) [] more left = absurd (omega arith)
 rest_stays (suc most) (b ∷ bytes) more left =
     ⊎_elim (λ (is : is_line_byte b ≡ true).
-        let n = Ends most bytes in
-        let fewer : suc most - suc n ≡ most - n = omega arith in
-        let left' : n < length bytes = omega (arith, ends_yes most b bytes is) in
-        ap (λ m. Rest (suc most - m) (drop m (b ∷ bytes) ++ more)) (ends_yes most b bytes is)
-        ∙ ap (λ m. Rest m (drop n bytes ++ more)) fewer
-        ∙ rest_stays most bytes more left'
-        ∙ sym (ap (λ m. drop m (b ∷ bytes) ++ more) (ends_yes most b bytes is)))
+    let n = Ends most bytes in
+    let fewer : suc most - suc n ≡ most - n = omega arith in
+    let left' : n < length bytes = omega (arith, ends_yes most b bytes is) in
+    ap (λ m. Rest (suc most - m) (drop m (b ∷ bytes) ++ more)) (ends_yes most b bytes is)
+    ∙ ap (λ m. Rest m (drop n bytes ++ more)) fewer
+    ∙ rest_stays most bytes more left'
+    ∙ sym (ap (λ m. drop m (b ∷ bytes) ++ more) (ends_yes most b bytes is)))
     (λ (not : is_line_byte b ≡ false).
-        let same : suc most - 0 ≡ suc most = omega arith in
-        ap (λ m. Rest (suc most - m) (drop m (b ∷ bytes) ++ more)) (ends_no most b bytes not)
-        ∙ ap (λ m. Rest m (b ∷ bytes ++ more)) same
-        ∙ ap (λ n. drop n (b ∷ bytes ++ more)) (ends_no most b (bytes ++ more) not)
-        ∙ sym (ap (λ m. drop m (b ∷ bytes) ++ more) (ends_no most b bytes not)))
+    let same : suc most - 0 ≡ suc most = omega arith in
+    ap (λ m. Rest (suc most - m) (drop m (b ∷ bytes) ++ more)) (ends_no most b bytes not)
+    ∙ ap (λ m. Rest m (b ∷ bytes ++ more)) same
+    ∙ ap (λ n. drop n (b ∷ bytes ++ more)) (ends_no most b (bytes ++ more) not)
+    ∙ sym (ap (λ m. drop m (b ∷ bytes) ++ more) (ends_no most b bytes not)))
     (cases_Bool (is_line_byte b))
 
 -- the same of what was counted

@@ -40,12 +40,7 @@ fn digits_of(alloc: Global, number: u64) -> Result<String, AllocError>
 }
 
 // Appends the line of one digest.
-fn push_digest(
-    alloc: Global,
-    out: &mut String,
-    name: &str,
-    digest: &[u8],
-) -> Result<(), AllocError>
+fn push_digest(alloc: Global, out: &mut String, name: &str, digest: &[u8]) -> Result<(), AllocError>
     ensures { OnOk result (string_bytes out.new ≡ string_bytes out.old ++ field_line name.now (encode_lower digest.now)) }
 {
     let text = hex::encode(alloc, digest)?;

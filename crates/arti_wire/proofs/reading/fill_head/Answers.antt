@@ -12,8 +12,7 @@ loop-to-preserved g c =
     let old = c.loop-to.ahead in
     let new = c.fill.new.self in
     let is_window : c.window.result.now ≡ take 32768 old = c.window.ensures ∙ ap (take 32768) c.as_slice.ensures.value in
-    let place : c.in-Some.to ≤ length (take 32768 old) = subst (λ (w : List ℕ). c.in-Some.to ≤ length w) is_window c.in-Some.ensures.place in
-    (
+    let place : c.in-Some.to ≤ length (take 32768 old) = subst (λ (w : List ℕ). c.in-Some.to ≤ length w) is_window c.in-Some.ensures.place in (
       (λ tells. c.in_ok-fill.ensures.bytes tells ∙ c.loop-to.invariant.0 tells),
       front_of_front first old new c.loop-to.invariant.1 c.fill.ensures.front,
       omega (arith, place, length-take 32768 old, length-take 32768 new, c.in_ok-fill.ensures.grown),

@@ -13,7 +13,7 @@ returns-then-not-is_empty-clause-bytes g c = λ tells.
     let ahead = c.has_more.new.self in
     let left = g.S.Source.left c.has_more.new.source in
     let counted : n ≡ length (take_while is_line_byte (take most ahead)) =
-        c.line_ends-n.ensures ∙ ap (λ bytes. length (take_while is_line_byte (take most bytes))) c.as_slice.ensures.value in
+    c.line_ends-n.ensures ∙ ap (λ bytes. length (take_while is_line_byte (take most bytes))) c.as_slice.ensures.value in
     let size = ap length c.pass.ensures ∙ length-drop n ahead in
     let some : n < length ahead = grind (arith, nat_tests) in
     ap (λ bytes. bytes ++ left) c.pass.ensures
@@ -28,11 +28,13 @@ loop-ahead-preserved g c =
     let ahead = c.has_more.new.self in
     let left = g.S.Source.left c.has_more.new.source in
     let counted : n ≡ length (take_while is_line_byte (take most ahead)) =
-        c.line_ends-n.ensures ∙ ap (λ bytes. length (take_while is_line_byte (take most bytes))) c.as_slice.ensures.value in
-    ((λ tells. ap (λ bytes. skip (most - n) (bytes ++ left)) c.pass.ensures
-        ∙ sym (skip_part most n ahead left counted)
-        ∙ ap (skip most) (c.in_ok-has_more.ensures.bytes tells)
-        ∙ c.loop-ahead.invariant.0 tells), search rules)
+    c.line_ends-n.ensures ∙ ap (λ bytes. length (take_while is_line_byte (take most bytes))) c.as_slice.ensures.value in (
+      (λ tells. ap (λ bytes. skip (most - n) (bytes ++ left)) c.pass.ensures
+          ∙ sym (skip_part most n ahead left counted)
+          ∙ ap (skip most) (c.in_ok-has_more.ensures.bytes tells)
+          ∙ c.loop-ahead.invariant.0 tells),
+      search rules,
+    )
 
 pub returns-clause-bytes : goal.returns-clause-bytes
 returns-clause-bytes g c = λ tells.

@@ -12,5 +12,5 @@ three s t u v a b c first second third =
 pub returns : goal.returns
 returns c =
     let last : string_bytes c.push_field-2.new.out ≡ string_bytes c.push_digests.new.out ++ field_line (codes "Content-Length") (decimal c.args.len) =
-        c.in_ok-push_field-2.ensures ∙ ap (λ text. string_bytes c.push_digests.new.out ++ field_line (codes "Content-Length") text) (c.as_str.ensures.value ∙ c.in_ok-length.ensures) in
+    c.in_ok-push_field-2.ensures ∙ ap (λ text. string_bytes c.push_digests.new.out ++ field_line (codes "Content-Length") text) (c.as_str.ensures.value ∙ c.in_ok-length.ensures) in
     three (string_bytes c.args.out.now) (string_bytes c.push_field.new.out) (string_bytes c.push_digests.new.out) (string_bytes c.push_field-2.new.out) (field_line (codes "Content-Type") c.args.kind.now) (digest_lines (option_copied c.args.digests)) (field_line (codes "Content-Length") (decimal c.args.len)) c.in_ok-push_field.ensures c.in_ok-push_digests.ensures last

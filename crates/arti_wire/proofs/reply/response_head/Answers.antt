@@ -13,7 +13,7 @@ returns c =
     let lines = body_lines c.args.kind.now (option_copied c.args.digests) c.args.len in
     let other : (status == 204) ≡ false = ne_eqb status 204 c.if-status-eq204.false in
     let middle : string_bytes c.push_body_lines.new.out ≡ first ++ lines =
-        c.in_ok-push_body_lines.ensures ∙ ap (λ s. s ++ lines) c.in_ok-head.ensures in
+    c.in_ok-push_body_lines.ensures ∙ ap (λ s. s ++ lines) c.in_ok-head.ensures in
     ap (λ (v : Vec ℕ Global). v.items) c.into_bytes-2.ensures.value
     ∙ c.in_ok-push_str-2.ensures.bytes
     ∙ ap (λ s. s ++ line_end) middle
