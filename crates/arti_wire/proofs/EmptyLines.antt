@@ -1,5 +1,5 @@
 -- The search for the first empty line, from one LF to the next.
-use Rattle.std.proofs.Common.{◌≡◌, ◌≢◌, ℕ, zero, suc, ◌+◌, ◌-◌, ◌<◌, ◌≤◌, Bool, true, false, List, [], ◌∷◌, ◌++◌, length, take, drop, get_or, refl, sym, ap, ◌∙◌, subst, inl, inr, ◌⊎◌, arith, append_assoc, append-nil, length-append, Option, Some, None}
+use Rattle.std.proofs.Common.{◌≡◌, ◌≢◌, ℕ, zero, suc, ◌+◌, ◌-◌, ◌<◌, ◌≤◌, Bool, true, false, ◌&&◌, List, [], ◌∷◌, ◌++◌, length, take, drop, get_or, refl, sym, ap, ◌∙◌, subst, inl, inr, ◌⊎◌, arith, append_assoc, append-nil, length-append, Option, Some, None}
 use Rattle.std.specs.Prelude.{option_map, ◌==◌, if◌then◌else◌}
 use Rattle.std.proofs.lemmas.Bool.{true≢false, ne_eqb, eqb-true, eq-eqb}
 use Rattle.memchr.specs.Find.{IsFirstByte, Nowhere, NoneBefore, Passes, is_byte}
@@ -147,3 +147,18 @@ search_end xs rest same plain =
 pub search_end_on : (xs rest bytes : List ℕ) → SameSearch xs rest → All (λ b. b ≢ 10) rest → SameSearch xs (drop (length bytes) bytes)
 search_end_on xs rest bytes same plain more =
     same more ∙ ap is_some (plain_front rest more plain) ∙ ap (λ r. is_some (lines_before_empty (r ++ more))) (sym (drop_all (length bytes) bytes (omega arith)))
+
+some_mapped : {A B : Type 0} (f : A → B) (o : Option A) → is_some o ≡ true → is_some (option_map f o) ≡ true
+some_mapped f None h = h
+some_mapped f (Some x) h = refl
+
+some_chosen : (b : Bool) (x y : Option ℕ) → is_some x ≡ true → is_some y ≡ true → is_some (if b then x else y) ≡ true
+some_chosen true x y p q = p
+some_chosen false x y p q = q
+
+-- an empty line in what stands from a place on is one of all bytes
+pub some_from : (bytes : List ℕ) (n : ℕ) → is_some (lines_before_empty (drop n bytes)) ≡ true → is_some (lines_before_empty bytes) ≡ true
+some_from bytes zero h = h
+some_from [] (suc n) h = h
+some_from (b ∷ bytes) (suc n) h =
+    some_chosen (b == 10 && starts_line_end bytes) (Some 1) _ refl (some_mapped _ (lines_before_empty bytes) (some_from bytes n h))

@@ -31,10 +31,10 @@ now (a ∷ []) n h = (n + 1, omega arith, λ more. rw h refl)
 now (a ∷ b ∷ bytes) n h =
     ⊎_elim (λ (is : (a == 10) ≡ true). (n + 1, omega arith, λ more. rw is refl))
     (λ (is : (a == 13 && b == 10) ≡ true).
-        let parts = and_parts (a == 13) (b == 10) is in
-        let cr : a ≡ 13 = eqb-true a 13 parts.0 in
-        let not : (a == 10) ≡ false = ap (λ v. v == 10) cr in
-        (n + 2, omega arith, λ more. rw (not, parts.0, parts.1) refl))
+    let parts = and_parts (a == 13) (b == 10) is in
+    let cr : a ≡ 13 = eqb-true a 13 parts.0 in
+    let not : (a == 10) ≡ false = ap (λ v. v == 10) cr in
+    (n + 2, omega arith, λ more. rw (not, parts.0, parts.1) refl))
     (or_cases (a == 10) (a == 13 && b == 10) h)
 
 no_line_in_one : (a : ℕ) → lines_before_empty (a ∷ []) ≡ None
@@ -62,16 +62,16 @@ empty_line_lies [] n lines h = absurd (none_is_some lines h)
 empty_line_lies (a ∷ []) n lines h = absurd (none_is_some lines (sym (no_line_in_one a) ∙ h))
 empty_line_lies (a ∷ b ∷ bytes) n lines h =
     ⊎_elim (λ (is : (a == 10) ≡ true).
-        let lf : a ≡ 10 = eqb-true a 10 is in
-        let h10 : lines_after_lf (b ∷ bytes) ≡ Some lines = subst (λ (v : ℕ). lines_before_empty (v ∷ b ∷ bytes) ≡ Some lines) lf h in
-        later a (b ∷ bytes) n (subst (Lies (b ∷ bytes) (n + 1)) (sym is) (⊎_elim (λ (starts : starts_line_end (b ∷ bytes) ≡ true). now (b ∷ bytes) (n + 1) starts)
-            (λ (not : starts_line_end (b ∷ bytes) ≡ false).
-                let next = some_before (lines_before_empty (b ∷ bytes)) lines (rw not at h10) in
-                behind (b ∷ bytes) (n + 1) not next.0 next.1 (empty_line_lies (b ∷ bytes) (n + 1) next.0 next.1))
-            (cases_Bool (starts_line_end (b ∷ bytes))))))
+    let lf : a ≡ 10 = eqb-true a 10 is in
+    let h10 : lines_after_lf (b ∷ bytes) ≡ Some lines = subst (λ (v : ℕ). lines_before_empty (v ∷ b ∷ bytes) ≡ Some lines) lf h in
+    later a (b ∷ bytes) n (subst (Lies (b ∷ bytes) (n + 1)) (sym is) (⊎_elim (λ (starts : starts_line_end (b ∷ bytes) ≡ true). now (b ∷ bytes) (n + 1) starts)
+    (λ (not : starts_line_end (b ∷ bytes) ≡ false).
+    let next = some_before (lines_before_empty (b ∷ bytes)) lines (rw not at h10) in
+    behind (b ∷ bytes) (n + 1) not next.0 next.1 (empty_line_lies (b ∷ bytes) (n + 1) next.0 next.1))
+    (cases_Bool (starts_line_end (b ∷ bytes))))))
     (λ (not : (a == 10) ≡ false).
-        let other : a ≢ 10 = λ e. false≢true (sym not ∙ ap (λ v. v == 10) e) in
-        later a (b ∷ bytes) n (subst (Lies (b ∷ bytes) (n + 1)) (sym not) (empty_line_lies (b ∷ bytes) (n + 1) lines (sym (lines_at_other a (b ∷ bytes) other) ∙ h))))
+    let other : a ≢ 10 = λ e. false≢true (sym not ∙ ap (λ v. v == 10) e) in
+    later a (b ∷ bytes) n (subst (Lies (b ∷ bytes) (n + 1)) (sym not) (empty_line_lies (b ∷ bytes) (n + 1) lines (sym (lines_at_other a (b ∷ bytes) other) ∙ h))))
     (cases_Bool (a == 10))
 
 -- ---- no front of a head has an empty line
@@ -86,7 +86,7 @@ front_has_no_empty_line h front more valid none split some = not_both (lines_bef
     let lies = empty_line_lies front 0 n found in
     let whole : print_request h ++ [] ≡ front ++ more = append-nil (print_request h) ∙ split in
     let ends : empty_line_end 0 false (front ++ more) ≡ Some (length (print_request h)) =
-        sym (ap (empty_line_end 0 false) whole) ∙ head_ends h (print_request h ++ []) [] none (valid, refl) in
+    sym (ap (empty_line_end 0 false) whole) ∙ head_ends h (print_request h ++ []) [] none (valid, refl) in
     let both : Some lies.0 ≡ Some (length (print_request h)) = sym (lies.2 more) ∙ ends in
     let same : lies.0 ≡ length (print_request h) = cc in
     omega (arith, same, lies.1, ap length split, length-append front more))
@@ -121,21 +121,21 @@ pub lines_more_bytes : (bytes more : List ℕ) (lines : ℕ) → lines_before_em
 lines_more_bytes [] more lines h = absurd (none_is_some lines h)
 lines_more_bytes (a ∷ bytes) more lines h =
     ⊎_elim (λ (is : (a == 10) ≡ true).
-        let lf : a ≡ 10 = eqb-true a 10 is in
-        let h10 : lines_after_lf bytes ≡ Some lines = subst (λ (v : ℕ). lines_before_empty (v ∷ bytes) ≡ Some lines) lf h in
-        subst (λ (v : ℕ). lines_before_empty (v ∷ bytes ++ more) ≡ Some lines) (sym lf) (⊎_elim (λ (starts : starts_line_end bytes ≡ true).
-            let is_one : Some 1 ≡ Some lines = rw starts at h10 in rw (starts_more bytes more starts) is_one)
-            (λ (not : starts_line_end bytes ≡ false).
-                let step : option_map (λ n. n + 1) (lines_before_empty bytes) ≡ Some lines = rw not at h10 in
-                let next = some_before (lines_before_empty bytes) lines step in
-                let kept = lines_more_bytes bytes more next.0 next.1 in
-                let same : option_map (λ n. n + 1) (lines_before_empty (bytes ++ more)) ≡ Some lines =
-                    ap (option_map (λ n. n + 1)) (kept ∙ sym next.1) ∙ step in
-                rw (not_starts_more bytes more next.0 next.1 not) same)
-            (cases_Bool (starts_line_end bytes))))
+    let lf : a ≡ 10 = eqb-true a 10 is in
+    let h10 : lines_after_lf bytes ≡ Some lines = subst (λ (v : ℕ). lines_before_empty (v ∷ bytes) ≡ Some lines) lf h in
+    subst (λ (v : ℕ). lines_before_empty (v ∷ bytes ++ more) ≡ Some lines) (sym lf) (⊎_elim (λ (starts : starts_line_end bytes ≡ true).
+    let is_one : Some 1 ≡ Some lines = rw starts at h10 in rw (starts_more bytes more starts) is_one)
+    (λ (not : starts_line_end bytes ≡ false).
+    let step : option_map (λ n. n + 1) (lines_before_empty bytes) ≡ Some lines = rw not at h10 in
+    let next = some_before (lines_before_empty bytes) lines step in
+    let kept = lines_more_bytes bytes more next.0 next.1 in
+    let same : option_map (λ n. n + 1) (lines_before_empty (bytes ++ more)) ≡ Some lines =
+    ap (option_map (λ n. n + 1)) (kept ∙ sym next.1) ∙ step in
+    rw (not_starts_more bytes more next.0 next.1 not) same)
+    (cases_Bool (starts_line_end bytes))))
     (λ (not : (a == 10) ≡ false).
-        let other : a ≢ 10 = λ e. false≢true (sym not ∙ ap (λ v. v == 10) e) in
-        lines_at_other a (bytes ++ more) other ∙ lines_more_bytes bytes more lines (sym (lines_at_other a bytes other) ∙ h))
+    let other : a ≢ 10 = λ e. false≢true (sym not ∙ ap (λ v. v == 10) e) in
+    lines_at_other a (bytes ++ more) other ∙ lines_more_bytes bytes more lines (sym (lines_at_other a bytes other) ∙ h))
     (cases_Bool (a == 10))
 
 cases_le : (m n : ℕ) → (m ≤ n) ⊎ (n < m)
@@ -146,8 +146,8 @@ window_more : (n : ℕ) (bytes more : List ℕ) → (rest : List ℕ) × (take n
 window_more n bytes more =
     ⊎_elim (λ (low : n ≤ length bytes). ([], take-append-le n bytes more low ∙ sym (append-nil (take n bytes))))
     (λ (high : length bytes < n).
-        let sum : n ≡ length bytes + (n - length bytes) = omega arith in
-        (take (n - length bytes) more, ap (λ m. take m (bytes ++ more)) sum ∙ take-append-add bytes more (n - length bytes) ∙ ap (λ f. f ++ take (n - length bytes) more) (sym (take_all n bytes (omega arith)))))
+    let sum : n ≡ length bytes + (n - length bytes) = omega arith in
+    (take (n - length bytes) more, ap (λ m. take m (bytes ++ more)) sum ∙ take-append-add bytes more (n - length bytes) ∙ ap (λ f. f ++ take (n - length bytes) more) (sym (take_all n bytes (omega arith)))))
     (cases_le n (length bytes))
 
 same_by_lines : (o : Option ℕ) (m n : ℕ) → (o ≡ None → 32768 ≤ m) → m ≤ n → by_lines o m ≡ by_lines o n
@@ -181,7 +181,7 @@ head_fits bytes more rest h fits starts =
     let text = print_request h in
     let n = length text in
     let front : take n bytes ≡ text =
-        sym (take-append-le n bytes more fits) ∙ ap (take n) starts.reads.1 ∙ take-append_seam text rest in
+    sym (take-append-le n bytes more fits) ∙ ap (take n) starts.reads.1 ∙ take-append_seam text rest in
     record {
       reads = (starts.reads.0, sym (take-append-drop n bytes) ∙ ap (λ f. f ++ drop n bytes) front);
       size = starts.size;
@@ -195,7 +195,7 @@ head_passes bytes more rest h long starts =
     let text = print_request h in
     let n = length bytes in
     let front : take n text ≡ bytes =
-        sym (take-append-le n text rest (omega arith)) ∙ ap (take n) (sym starts.reads.1) ∙ take-append_seam bytes more in
+    sym (take-append-le n text rest (omega arith)) ∙ ap (take n) (sym starts.reads.1) ∙ take-append_seam bytes more in
     sym (take-append-drop n text) ∙ ap (λ f. f ++ drop n text) front
 
 not_beyond : (b : ℕ) (bytes more rest : List ℕ) (h : RequestHead) → is_line_byte b ≡ false → Decides (b ∷ bytes) more → StartsWithHead ((b ∷ bytes) ++ more) h rest
@@ -229,8 +229,10 @@ head_or_none_more content b bytes more start plain decides (inl x) =
     let starts : StartsWithHead ((b ∷ bytes) ++ more) h (x.1 ++ more) = record { reads = reads; size = x.2.size; count = x.2.count } in
     inl (h, x.1 ++ more, starts, ap (λ s. with_more s more) x.3 ∙ sym (same_with (body_fault content (map name_and_value h.fields)) (request_of h) (body_length (map name_and_value h.fields)) x.1 more))
 head_or_none_more content b bytes more start plain decides (inr x) =
-    inr ((λ h rest starts.
-        ⊎_elim (λ (fits : length (print_request h) ≤ length (b ∷ bytes)). x.0 h _ (head_fits (b ∷ bytes) more rest h fits starts))
-        (λ (long : length (b ∷ bytes) < length (print_request h)). not_beyond b bytes more rest h plain decides starts long)
-        (cases_le (length (print_request h)) (length (b ∷ bytes)))),
-        ap (λ s. with_more s more) x.1 ∙ by_lines_more (lines_before_empty (take 32768 (b ∷ bytes))) (length (b ∷ bytes)) more ∙ sym (same_without (b ∷ bytes) more decides))
+    inr (
+      (λ h rest starts.
+          ⊎_elim (λ (fits : length (print_request h) ≤ length (b ∷ bytes)). x.0 h _ (head_fits (b ∷ bytes) more rest h fits starts))
+          (λ (long : length (b ∷ bytes) < length (print_request h)). not_beyond b bytes more rest h plain decides starts long)
+          (cases_le (length (print_request h)) (length (b ∷ bytes)))),
+      ap (λ s. with_more s more) x.1 ∙ by_lines_more (lines_before_empty (take 32768 (b ∷ bytes))) (length (b ∷ bytes)) more ∙ sym (same_without (b ∷ bytes) more decides),
+    )

@@ -35,7 +35,7 @@ pub names_are_texts : (bytes : List ℕ) (headers : List HeaderSpan) (spans : Re
 names_are_texts bytes headers spans h at =
     let IsNamed : List ℕ × List ℕ → Type 0 = λ f. IsUtf8 f.0 in
     let named : All IsNamed (map name_and_value h.fields) =
-        All-map IsNamed name_and_value h.fields (All-weaker IsField (λ f. IsUtf8 f.name) (λ f field. token_is_text f.name field.name) h.fields at.reads.0.fields) in
+    All-map IsNamed name_and_value h.fields (All-weaker IsField (λ f. IsUtf8 f.name) (λ f field. token_is_text f.name field.name) h.fields at.reads.0.fields) in
     all_from_map IsNamed (header_bytes bytes) (take spans.headers headers) (subst (All IsNamed) (sym at.fields) named)
 
 -- a head in the window is one of all bytes
@@ -45,16 +45,18 @@ starts_with_window bytes front headers spans h is_front room within at =
     let fits : spans.len ≤ length front = within.section.len_fits in
     let whole : front ++ drop 32768 bytes ≡ bytes = ap (λ f. f ++ drop 32768 bytes) is_front ∙ take-append-drop 32768 bytes in
     let rest : drop spans.len bytes ≡ drop spans.len front ++ drop 32768 bytes =
-        ap (drop spans.len) (sym whole) ∙ drop-append-le spans.len front (drop 32768 bytes) fits in
+    ap (drop spans.len) (sym whole) ∙ drop-append-le spans.len front (drop 32768 bytes) fits in
     let reads = ReadsRequest-append front h (drop spans.len front) (drop 32768 bytes) at.reads in
     let bound = ap length is_front ∙ length-take 32768 bytes in
     let mapped : length (map (header_bytes front) (take spans.headers headers)) ≡ length (map name_and_value h.fields) = ap length at.fields in
-    let count : length (take spans.headers headers) ≡ length h.fields = simp length-map at mapped in
-    (record {
-      reads = (reads.0, sym whole ∙ reads.1 ∙ ap (λ r. print_request h ++ r) (sym rest));
-      size = omega (arith, bound, fits, at.len);
-      count = omega (arith, count, length-take spans.headers headers);
-    }, omega (arith, bound, fits))
+    let count : length (take spans.headers headers) ≡ length h.fields = simp length-map at mapped in (
+      record {
+        reads = (reads.0, sym whole ∙ reads.1 ∙ ap (λ r. print_request h ++ r) (sym rest));
+        size = omega (arith, bound, fits, at.len);
+        count = omega (arith, count, length-take spans.headers headers);
+      },
+      omega (arith, bound, fits),
+    )
 
 -- a head of the bytes is one in the window
 pub window_reads : (bytes front rest : List ℕ) (h : RequestHead) → front ≡ take 32768 bytes → StartsWithHead bytes h rest

@@ -3,3 +3,5 @@ pub mod Heads
 pub mod Lines
 pub mod Ahead
 pub mod Judged
+pub mod Framing
+pub mod WireState

@@ -1,8 +1,16 @@
 -- Lines in a list of bytes.
 use Rattle.std.specs.Prelude.{◌≡◌, ◌≢◌, ℕ, List, [], ◌∷◌, ◌++◌, ◌⊎◌, All, true, false, is_some}
-use Rattle.arti_model.specs.Requests.{starts_line_end, lines_before_empty}
+use Rattle.arti_model.specs.Requests.{is_line_byte, starts_line_end, lines_before_empty}
+use Rattle.arti_wire.specs.declared.lines.FrontByte.{FrontByte}
+use Rattle.arti_wire.specs.declared.lines.FrontByte.TheVariants.{Nothing, LineByte, Byte}
 use Rattle.arti_wire.specs.declared.lines.Follower.{Follower}
 use Rattle.arti_wire.specs.declared.lines.Follower.TheVariants.{EmptyLine, Open, Other}
+
+-- the bytes are empty, or begin with CR or LF, or with another byte
+abbrev pub StartsSo : List ℕ → FrontByte → Type 0
+StartsSo bytes Nothing = bytes ≡ []
+StartsSo bytes LineByte = (b : ℕ) × (rest : List ℕ) × (bytes ≡ b ∷ rest) × (is_line_byte b ≡ true)
+StartsSo bytes Byte = (b : ℕ) × (rest : List ℕ) × (bytes ≡ b ∷ rest) × (is_line_byte b ≡ false)
 
 -- rest stands behind the first LF of the bytes
 pub record IsBehindLine (bytes rest : List ℕ) : Type 0 where

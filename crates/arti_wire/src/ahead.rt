@@ -1,5 +1,5 @@
 // Bytes that were read from a source and not yet used.
-ghost use Rattle.std.specs.Prelude.{◌≡◌, ℕ, ◌+◌, ◌-◌, ◌<◌, ◌≤◌, List, [], ◌++◌, length, take, drop, min, IfOk, OnOk, OnErr, slice_range, vec_len};
+ghost use Rattle.std.specs.Prelude.{◌≡◌, ℕ, ◌+◌, ◌-◌, ◌<◌, ◌≤◌, List, [], ◌++◌, length, take, drop, min, IfOk, OnOk, OnErr, slice_range, vec_len, IsTrue, ◌↔◌, false};
 ghost use Rattle.arti_ground.specs.State.{HasCause};
 
 use arti_ground::{Failed, Source};
@@ -18,7 +18,7 @@ pub struct Ahead {
 }
 
 impl Model for Ahead {
-    ghost use Rattle.std.specs.Prelude.{◌≡◌, ◌≤◌, ℕ, List, slice_range, vec_len};
+    ghost use Rattle.std.specs.Prelude.{◌≡◌, ◌≤◌, ℕ, List, slice_range, vec_len, IsTrue, ◌↔◌, false};
 
     ghost Value = { List ℕ };
 
@@ -96,6 +96,40 @@ impl Ahead {
         }
         let n = read_behind(&mut self.room, self.end, source)?;
         self.end += n;
+        Ok(n)
+    }
+}
+
+impl Ahead {
+    /// Whether a byte is ahead. It reads where none is.
+    pub fn has_more<S: Source>(&mut self, source: &mut S) -> Result<bool, Failed>
+        ensures bytes { S.tells → OnOk result (self.new ++ S.left source.new ≡ self.old ++ S.left source.old) }
+        ensures some { IfOk result (λ more. IsTrue more ↔ (0 < length self.new)) }
+        ensures end { S.tells → IfOk result (λ more. more ≡ false → S.left source.new ≡ []) }
+        ensures cause { HasCause (S.faults source.old) (S.faults source.new) result }
+    {
+        if !self.as_slice().is_empty() {
+            return Ok(true);
+        }
+        Ok(self.fill(source)? > 0)
+    }
+}
+
+impl Ahead {
+    /// Puts the next bytes into the buffer, from the bytes ahead or, where there are none, from the source.
+    pub fn give<S: Source>(&mut self, source: &mut S, buf: &mut [u8]) -> Result<usize, Failed>
+        ensures within { IfOk result (λ n. n ≤ length buf.new) }
+        ensures bytes { S.tells → IfOk result (λ n. self.old ++ S.left source.old ≡ take n buf.new ++ (self.new ++ S.left source.new)) }
+        ensures end { S.tells → IfOk result (λ n. n ≡ 0 → 0 < length buf.old → self.old ++ S.left source.old ≡ []) }
+        ensures cause { HasCause (S.faults source.old) (S.faults source.new) result }
+    {
+        let ahead = self.as_slice();
+        if ahead.is_empty() {
+            return source.read(buf);
+        }
+        let n = ahead.len().min(buf.len());
+        buf[..n].copy_from_slice(&ahead[..n]);
+        self.pass(n);
         Ok(n)
     }
 }

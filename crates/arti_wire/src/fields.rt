@@ -16,7 +16,9 @@ use arti_rows::Text;
 pub type Field = (Text, Vec<u8>);
 
 const CONTENT_LENGTH: &str = "Content-Length";
+
 const TRANSFER_ENCODING: &str = "Transfer-Encoding";
+
 const CONNECTION: &str = "Connection";
 
 // Whether the field has that name, compared without ASCII case.

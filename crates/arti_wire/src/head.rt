@@ -61,11 +61,7 @@ fn field_at(alloc: Global, bytes: &[u8], header: &HeaderSpan) -> Result<Field, A
 }
 
 // The names and the values that spans cover.
-fn fields_at(
-    alloc: Global,
-    bytes: &[u8],
-    headers: &[HeaderSpan],
-) -> Result<Seq<Field>, AllocError>
+fn fields_at(alloc: Global, bytes: &[u8], headers: &[HeaderSpan]) -> Result<Seq<Field>, AllocError>
     requires within { All (IsHeaderWithin (length bytes.now)) headers.now }
     requires names { All (λ header. IsUtf8 (span_bytes bytes.now header.name)) headers.now }
     ensures { IfOk result (λ fields. texts_of fields ≡ map (header_bytes bytes.now) headers.now) }

@@ -16,6 +16,8 @@ const LINE_ROOM: usize = 65;
 /// What bytes begin with.
 #[derive(Debug, Drop)]
 pub enum Judged {
+    /// Nothing.
+    End,
     /// A head, its length, and the length of its body.
     Head(Request, usize, u64),
     Bad(Why),

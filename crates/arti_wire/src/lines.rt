@@ -1,9 +1,30 @@
 // The first empty line of a head.
 ghost use Rattle.std.specs.Prelude.{◌≡◌, ◌≢◌, ℕ, ◌≤◌, List, length, drop, All, IfSome, IfNone, IsSome, None};
 ghost use Rattle.arti_model.specs.Requests.{starts_line_end, lines_before_empty};
-ghost use Rattle.arti_wire.specs.Lines.{IsBehindLine, Follows, SameSearch};
+ghost use Rattle.arti_wire.specs.Lines.{StartsSo, IsBehindLine, Follows, SameSearch};
 
 use memchr::memchr;
+
+/// What bytes begin with.
+#[derive(Clone, Copy, Debug, PartialEq, Eq)]
+pub enum FrontByte {
+    Nothing,
+    /// CR or LF.
+    LineByte,
+    /// Any other byte.
+    Byte,
+}
+
+/// What the bytes begin with.
+pub fn front(bytes: &[u8]) -> FrontByte
+    ensures { StartsSo bytes.now result }
+{
+    match bytes {
+        [] => FrontByte::Nothing,
+        [b'\r' | b'\n', ..] => FrontByte::LineByte,
+        _ => FrontByte::Byte,
+    }
+}
 
 // Whether a line ends directly at the front.
 fn begins_line_end(bytes: &[u8]) -> bool

@@ -9,5 +9,5 @@ returns c =
     let fields = c.self.inside in
     let view : slice_range fields.room.items fields.start fields.end ≡ c.args.self.now = c.self.view_is in
     let fits : c.args.n ≤ fields.end - fields.start =
-        omega (arith, ap length view, length-take (fields.end - fields.start) (drop fields.start fields.room.items)) in
+    omega (arith, ap length view, length-take (fields.end - fields.start) (drop fields.start fields.room.items)) in
     pass_range fields.room.items fields.start fields.end c.args.n fits ∙ ap (drop c.args.n) view
