@@ -151,5 +151,5 @@ step_on limits r q moment (Some key) =
     if has_method q.head (codes "GET") then fetch r key else not_yet r)
 
 -- one request at a moment
-abbrev pub step : Limits → Repository → Whole → ℤ → Answer
+unfoldable pub step : Limits → Repository → Whole → ℤ → Answer
 step limits r q moment = step_on limits r q moment (item_asked q.head)

@@ -30,11 +30,25 @@ module _ (limits : Limits) (r : Repository) (moment : ℤ) (key : Key) (content 
 module _ (limits : Limits) (r : Repository) (q : Whole) (moment : ℤ) where
   -- a request that names no item
   pub names_none : item_asked q.head ≡ None → step limits r q moment ≡ not_yet r
+  unfolding step
   names_none e = ap (step_on limits r q moment) e
 
-  -- a request that names an item by another method
-  pub other_method : (key : Key) → item_asked q.head ≡ Some key → has_method q.head (codes "PUT") ≡ false → has_method q.head (codes "GET") ≡ false → step limits r q moment ≡ not_yet r
-  other_method key e put get =
-      ap (step_on limits r q moment) e
-      ∙ ap (λ (b : Bool). cond b (deploy limits r moment key q.body) (cond (has_method q.head (codes "GET")) (fetch r key) (not_yet r))) put
-      ∙ ap (λ (b : Bool). cond b (fetch r key) (not_yet r)) get
+  module _ (key : Key) (e : item_asked q.head ≡ Some key) where
+    by_method : step limits r q moment ≡ cond (has_method q.head (codes "PUT")) (deploy limits r moment key q.body) (cond (has_method q.head (codes "GET")) (fetch r key) (not_yet r))
+    unfolding step
+    by_method = ap (step_on limits r q moment) e
+
+    -- a deploy
+    pub puts : has_method q.head (codes "PUT") ≡ true → step limits r q moment ≡ deploy limits r moment key q.body
+    puts put = by_method ∙ ap (λ (b : Bool). cond b (deploy limits r moment key q.body) (cond (has_method q.head (codes "GET")) (fetch r key) (not_yet r))) put
+
+    not_put : has_method q.head (codes "PUT") ≡ false → step limits r q moment ≡ cond (has_method q.head (codes "GET")) (fetch r key) (not_yet r)
+    not_put put = by_method ∙ ap (λ (b : Bool). cond b (deploy limits r moment key q.body) (cond (has_method q.head (codes "GET")) (fetch r key) (not_yet r))) put
+
+    -- a fetch
+    pub gets : has_method q.head (codes "PUT") ≡ false → has_method q.head (codes "GET") ≡ true → step limits r q moment ≡ fetch r key
+    gets put get = not_put put ∙ ap (λ (b : Bool). cond b (fetch r key) (not_yet r)) get
+
+    -- another method
+    pub other_method : has_method q.head (codes "PUT") ≡ false → has_method q.head (codes "GET") ≡ false → step limits r q moment ≡ not_yet r
+    other_method put get = not_put put ∙ ap (λ (b : Bool). cond b (fetch r key) (not_yet r)) get

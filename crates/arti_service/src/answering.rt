@@ -1,7 +1,7 @@
 // One request is answered.
-ghost use Rattle.std.specs.Prelude.{◌≡◌, ◌≢◌, ◌++◌, ◌+◌, ◌≤◌, ℕ, OnOk, OnErr, IsErrOf, Err, IsOk};
-ghost use Rattle.arti_ground.specs.State.{State, LeavesDisk, Rose};
-ghost use Rattle.arti_model.specs.Step.{step, deploy, fetch, not_yet};
+ghost use Rattle.std.specs.Prelude.{◌≡◌, ◌≢◌, ◌++◌, OnOk, IfOk, IsErrOf, Err, Some};
+ghost use Rattle.arti_ground.specs.State.{LeavesDisk, Rose};
+ghost use Rattle.arti_model.specs.Step.{step, deploy, fetch, not_yet, item_asked};
 
 use crate::ask::{has_method, item_asked};
 use crate::replies;
@@ -114,6 +114,74 @@ fn answer_fetch<G: Ground>(
 }
 
 ghost use Rattle.arti_model.specs.Store.{Repository};
+ghost use Rattle.arti_service.specs.Asks.{MeansFor, answer_to};
+
+/// What a request asks.
+#[derive(Drop)]
+pub enum Asked {
+    Deploy(ItemKey),
+    Fetch(ItemKey),
+    NotBuilt,
+}
+
+// What a request asks.
+fn ask_of(alloc: Global, request: &Request) -> Result<Asked, AllocError>
+    ensures { IfOk result (MeansFor request.now) }
+{
+    match item_asked(alloc, request)? {
+        None => Ok(Asked::NotBuilt),
+        Some(key) => ask_on(request, key),
+    }
+}
+
+// What a request asks that names an item.
+fn ask_on(request: &Request, key: ItemKey) -> Result<Asked, AllocError>
+    requires { item_asked request.now ≡ Some key }
+    ensures { IfOk result (MeansFor request.now) }
+{
+    if has_method(request, "PUT") {
+        return Ok(Asked::Deploy(key));
+    }
+    if has_method(request, "GET") {
+        return Ok(Asked::Fetch(key));
+    }
+    Ok(Asked::NotBuilt)
+}
+
+// Answers what was asked.
+fn answer_asked<G: Ground>(
+    alloc: Global,
+    store: &mut Store,
+    ground: &mut G,
+    line: u32,
+    limits: &Limits,
+    asked: Asked,
+    body: Vec<u8>,
+    moment: Moment,
+) -> Result<(), Stop>
+    ensures told { G.tells → OnOk result ((G.state ground.new).told line ≡ (G.state ground.old).told line ++ (answer_to asked limits.now store.old body.items moment).reply) }
+    ensures repository { OnOk result (store.new ≡ (answer_to asked limits.now store.old body.items moment).repository) }
+    ensures tell_fault { IsErrOf result Stop.Tell → Rose (G.tell_faults ground.old line) (G.tell_faults ground.new line) }
+    ensures quiet { result ≢ Err Stop.Tell → G.tell_faults ground.new ≡ G.tell_faults ground.old }
+    ensures no_disk { result ≢ Err Stop.Disk }
+    ensures disk_faults { G.disk_faults ground.new ≡ G.disk_faults ground.old }
+    ensures disk { G.tells → LeavesDisk (G.state ground.old) (G.state ground.new) }
+{
+    match asked {
+        Asked::Deploy(key) => {
+            answer_deploy(alloc, store, ground, line, limits, moment, key, body)?;
+            Ok(())
+        }
+        Asked::Fetch(key) => {
+            answer_fetch(alloc, store, ground, line, &key)?;
+            Ok(())
+        }
+        Asked::NotBuilt => {
+            answer_not_yet(alloc, ground, line)?;
+            Ok(())
+        }
+    }
+}
 
 /// Answers one request on a line.
 pub fn answer<G: Ground>(
@@ -135,20 +203,7 @@ pub fn answer<G: Ground>(
     ensures disk_faults { G.disk_faults ground.new ≡ G.disk_faults ground.old }
     ensures disk { G.tells → LeavesDisk (G.state ground.old) (G.state ground.new) }
 {
-    match item_asked(alloc, request)? {
-        None => {
-            answer_not_yet(alloc, ground, line)?;
-            Ok(())
-        }
-        Some(key) => {
-            if has_method(request, "PUT") {
-                return answer_deploy(alloc, store, ground, line, limits, moment, key, body);
-            }
-            if has_method(request, "GET") {
-                return answer_fetch(alloc, store, ground, line, &key);
-            }
-            answer_not_yet(alloc, ground, line)?;
-            Ok(())
-        }
-    }
+    let asked = ask_of(alloc, request)?;
+    answer_asked(alloc, store, ground, line, limits, asked, body, moment)?;
+    Ok(())
 }

@@ -3,9 +3,12 @@
 
 mod answering;
 mod ask;
+mod conversation;
+
 mod replies;
 mod store;
 mod stored;
 
 pub use answering::{Stop, answer};
+pub use conversation::{Ending, converse};
 pub use store::Store;

@@ -1,5 +1,5 @@
 // The bytes of replies.
-ghost use Rattle.std.specs.Prelude.{◌≡◌, ◌+◌, ◌<◌, ◌++◌, ◌∷◌, [], length, IfOk, OnOk, codes, Some, None};
+ghost use Rattle.std.specs.Prelude.{◌≡◌, ◌+◌, ◌<◌, ◌++◌, ◌∷◌, [], length, string_bytes, IfOk, OnOk, Some};
 ghost use Rattle.arti_rows.specs.Key.{whole_of};
 ghost use Rattle.arti_model.specs.Replies.{head_bytes, IsReplyStatus};
 ghost use Rattle.arti_model.specs.Bodies.{text_member, text_members, deployed_members, deployed_body, digest_members, error_body, json_reply, refused, content_kind, item_text};
@@ -7,6 +7,7 @@ ghost use Rattle.arti_model.specs.Step.{not_found};
 
 use arti_json::{write_number, write_text};
 use arti_rows::{Digests, ItemKey, Moment};
+use arti_wire::response_head;
 use std::alloc::{AllocError, Global};
 
 // A member with a text.
@@ -139,21 +140,4 @@ pub fn content_head(alloc: Global, digests: &Digests, len: u64) -> Result<Vec<u8
     ensures { IfOk result (λ v. v.items ≡ head_bytes 200 content_kind (Some digests.now) len) }
 {
     response_head(alloc, 200, "application/octet-stream", Some(digests), len)
-}
-
-ghost use Rattle.std.specs.Prelude.{string_bytes, option_map};
-ghost use Rattle.std.specs.Option.{option_copied};
-
-fn response_head(
-    alloc: Global,
-    status: u16,
-    kind: &str,
-    digests: Option<&Digests>,
-    len: u64,
-) -> Result<Vec<u8>, AllocError>
-    requires { IsReplyStatus status }
-    ensures { IfOk result (λ v. v.items ≡ head_bytes status kind.now (option_copied digests.entry) len) }
-{
-    let _ = alloc;
-    Err(AllocError)
 }

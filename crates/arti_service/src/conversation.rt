@@ -1,0 +1,303 @@
+// A conversation on one stream: each request is read and answered in turn.
+ghost use Rattle.std.specs.Prelude.{◌≡◌, ◌≢◌, ◌++◌, ◌-◌, ◌<◌, ℕ, List, length, IfOk, IfErr, OnOk, OnErr, IsErrOf, Err, IsOk};
+ghost use Rattle.arti_ground.specs.State.{LeavesDisk, Rose};
+ghost use Rattle.arti_wire.specs.Framing.{IsInBody, body_left, HasSourceCause};
+ghost use Rattle.arti_wire.specs.declared.wire.Phase.TheVariants.{Between};
+ghost use Rattle.arti_model.specs.Run.{error_reply};
+ghost use Rattle.arti_service.specs.Bodies.{IsBodyOf, LeavesPhase};
+ghost use Rattle.arti_service.specs.Talk.{AtStreamEnd, Answers, TakesTurn};
+
+use crate::answering::{Stop, answer};
+use crate::replies;
+use crate::store::Store;
+use arti_ground::{Clock, Ground, Source, Steps, Upstream};
+use arti_rows::Limits;
+use arti_wire::{NextHead, Piece, Request, Why, Wire, WireFault};
+use std::alloc::{AllocError, Global};
+use std::sync::ledger::Ledger;
+
+/// How a conversation ended.
+#[derive(Clone, Copy, Debug, PartialEq, Eq)]
+pub enum Ending {
+    /// The stream ended, or a request said that it is the last.
+    End,
+    /// The stream ended inside a request.
+    Cut,
+    /// The bytes are no request; that was told.
+    Bad(Why),
+    /// As many requests were answered as one stream may have.
+    TooMany,
+    Disk,
+    Tell,
+    Source,
+    Memory,
+}
+
+// Reads the body of a request whole, or finds it cut.
+fn read_body<S: Source>(
+    alloc: Global,
+    wire: &mut Wire,
+    source: &mut S,
+    buf: &mut [u8],
+) -> Result<Option<Vec<u8>>, WireFault>
+    requires body { IsInBody wire.old.phase }
+    requires room { 0 < length buf.old }
+    ensures body { S.tells → IfOk result (IsBodyOf (body_left wire.old.phase) (wire.old.ahead ++ S.left source.old) (wire.new.ahead ++ S.left source.new)) }
+    ensures phase { IfOk result (LeavesPhase wire.new.phase) }
+    ensures cause { HasSourceCause (S.faults source.old) (S.faults source.new) result }
+{
+    let mut body = Vec::new(alloc);
+    'pieces: loop {
+        match wire.next_piece(source, buf)? {
+            Piece::Some(n) => body.extend_from_slice(&buf[..n])?,
+            Piece::Last => return Ok(Some(body)),
+            Piece::Cut => return Ok(None),
+            Piece::Bad(_) => unreachable!(),
+        }
+    }
+}
+
+// The reply to bytes that are no request.
+fn error_text(alloc: Global, why: Why) -> Result<Vec<u8>, AllocError>
+    ensures { IfOk result (λ v. v.items ≡ error_reply why) }
+{
+    match why {
+        Why::BadHead => replies::refusal(alloc, 400, "BadHead"),
+        Why::HeadTooLarge => replies::refusal(alloc, 400, "HeadTooLarge"),
+        Why::BadLength => replies::refusal(alloc, 400, "BadLength"),
+        Why::UnknownCoding => replies::refusal(alloc, 501, "UnknownCoding"),
+        Why::BodyTooLarge => replies::refusal(alloc, 413, "BodyTooLarge"),
+    }
+}
+
+// Tells that the bytes are no request.
+fn tell_bad<G: Ground>(alloc: Global, ground: &mut G, line: u32, why: Why) -> Result<(), Stop>
+    ensures told { G.tells → OnOk result ((G.state ground.new).told line ≡ (G.state ground.old).told line ++ error_reply why) }
+    ensures tell_fault { IsErrOf result Stop.Tell → Rose (G.tell_faults ground.old line) (G.tell_faults ground.new line) }
+    ensures quiet { result ≢ Err Stop.Tell → G.tell_faults ground.new ≡ G.tell_faults ground.old }
+    ensures no_disk { result ≢ Err Stop.Disk }
+    ensures disk_faults { G.disk_faults ground.new ≡ G.disk_faults ground.old }
+    ensures disk { G.tells → LeavesDisk (G.state ground.old) (G.state ground.new) }
+{
+    let reply = error_text(alloc, why)?;
+    ground.tell(line, &reply)?;
+    Ok(())
+}
+
+ghost use Rattle.arti_service.specs.Talk.{AnswersOne, CutsShort};
+
+// What ends a conversation where an answer stopped.
+fn ending_of(stop: Stop) -> Ending
+    requires { stop ≢ Stop.Disk }
+    ensures tell { result ≡ Ending.Tell → stop ≡ Stop.Tell }
+    ensures not_tell { result ≢ Ending.Tell → stop ≢ Stop.Tell }
+    ensures fault { IsFault result }
+    ensures source { result ≢ Ending.Source }
+{
+    match stop {
+        Stop::Disk => unreachable!(),
+        Stop::Tell => Ending::Tell,
+        Stop::Memory => Ending::Memory,
+    }
+}
+
+// Reads the body of a request, and answers it.
+fn answer_next<G: Ground, S: Source, C: Clock>(
+    alloc: Global,
+    store: &mut Store,
+    ground: &mut G,
+    source: &mut S,
+    clock: &mut C,
+    line: u32,
+    limits: &Limits,
+    wire: &mut Wire,
+    buf: &mut [u8],
+    request: &Request,
+) -> Result<(), Ending>
+    requires body { IsInBody wire.old.phase }
+    requires room { 0 < length buf.old }
+    ensures one { G.tells → S.tells → C.tells → OnOk result (AnswersOne limits.now (C.moments clock.old) (C.moments clock.new) store.old store.new request.now (body_left wire.old.phase)
+        (wire.old.ahead ++ S.left source.old) (wire.new.ahead ++ S.left source.new) ((G.state ground.old).told line) ((G.state ground.new).told line)) }
+    ensures cut { G.tells → S.tells → IsErrOf result Ending.Cut → CutsShort (body_left wire.old.phase) (wire.old.ahead ++ S.left source.old) store.old store.new ((G.state ground.old).told line) ((G.state ground.new).told line) }
+    ensures phase { OnOk result (wire.new.phase ≡ Between) }
+    ensures ends { IfErr result IsCutOrFault }
+    ensures tell_fault { IsErrOf result Ending.Tell → Rose (G.tell_faults ground.old line) (G.tell_faults ground.new line) }
+    ensures quiet { result ≢ Err Ending.Tell → G.tell_faults ground.new ≡ G.tell_faults ground.old }
+    ensures source_fault { IsErrOf result Ending.Source → Rose (S.faults source.old) (S.faults source.new) }
+    ensures source_quiet { result ≢ Err Ending.Source → S.faults source.new ≡ S.faults source.old }
+    ensures disk_faults { G.disk_faults ground.new ≡ G.disk_faults ground.old }
+    ensures disk { G.tells → LeavesDisk (G.state ground.old) (G.state ground.new) }
+{
+    let body = match read_body(alloc, wire, source, buf) {
+        Ok(Some(body)) => body,
+        Ok(None) => return Err(Ending::Cut),
+        Err(WireFault::Source) => return Err(Ending::Source),
+        Err(WireFault::Memory) => return Err(Ending::Memory),
+    };
+    let moment = clock.now();
+    match answer(alloc, store, ground, line, limits, request, body, moment) {
+        Ok(()) => Ok(()),
+        Err(stop) => Err(ending_of(stop)),
+    }
+}
+
+ghost use Rattle.arti_service.specs.Endings.{IsFault, IsCutOrFault};
+
+ghost use Rattle.std.specs.Prelude.{◌⊎◌};
+ghost use Rattle.arti_model.specs.Requests.{Begins, Head};
+
+// The request whose head has come is answered, and the stream goes on or ends.
+fn turn_on<G: Ground, S: Source, C: Clock>(
+    alloc: Global,
+    store: &mut Store,
+    ground: &mut G,
+    source: &mut S,
+    clock: &mut C,
+    line: u32,
+    limits: &Limits,
+    wire: &mut Wire,
+    buf: &mut [u8],
+    most: u32,
+    request: &Request,
+) -> Result<(), Ending>
+    requires body { IsInBody wire.old.phase }
+    requires room { 0 < length buf.old }
+    requires some { 0 < most }
+    ensures turns { G.tells → S.tells → C.tells → (input : List ℕ) → Begins limits.now.content input (Head request.now (body_left wire.old.phase) (wire.old.ahead ++ S.left source.old))
+        → OnOk result (TakesTurn limits.now most (C.moments clock.old) (C.moments clock.new) store.old store.new input (wire.new.ahead ++ S.left source.new) ((G.state ground.old).told line) ((G.state ground.new).told line)) }
+    ensures ends { G.tells → S.tells → C.tells → (input : List ℕ) → Begins limits.now.content input (Head request.now (body_left wire.old.phase) (wire.old.ahead ++ S.left source.old))
+        → IfErr result (λ ending. AtStreamEnd ending (Answers limits.now most (C.moments clock.old) store.old input ((G.state ground.old).told line) ((G.state ground.new).told line) store.new)) }
+    ensures phase { OnOk result (wire.new.phase ≡ Between) }
+    ensures tell_fault { IsErrOf result Ending.Tell → Rose (G.tell_faults ground.old line) (G.tell_faults ground.new line) }
+    ensures quiet { result ≢ Err Ending.Tell → G.tell_faults ground.new ≡ G.tell_faults ground.old }
+    ensures source_fault { IsErrOf result Ending.Source → Rose (S.faults source.old) (S.faults source.new) }
+    ensures source_quiet { result ≢ Err Ending.Source → S.faults source.new ≡ S.faults source.old }
+    ensures no_disk { result ≢ Err Ending.Disk }
+    ensures disk_faults { G.disk_faults ground.new ≡ G.disk_faults ground.old }
+    ensures disk { G.tells → LeavesDisk (G.state ground.old) (G.state ground.new) }
+{
+    let last = request.last;
+    match answer_next(
+        alloc, store, ground, source, clock, line, limits, wire, buf, request,
+    ) {
+        Err(ending) => Err(ending),
+        Ok(()) => {
+            if last {
+                return Err(Ending::End);
+            }
+            Ok(())
+        }
+    }
+}
+
+// Tells that the bytes are no request, and ends.
+fn end_bad<G: Ground>(alloc: Global, ground: &mut G, line: u32, why: Why) -> Ending
+    ensures bad { result ≡ Ending.Bad why ⊎ IsFault result }
+    ensures told { G.tells → result ≡ Ending.Bad why → (G.state ground.new).told line ≡ (G.state ground.old).told line ++ error_reply why }
+    ensures tell_fault { result ≡ Ending.Tell → Rose (G.tell_faults ground.old line) (G.tell_faults ground.new line) }
+    ensures quiet { result ≢ Ending.Tell → G.tell_faults ground.new ≡ G.tell_faults ground.old }
+    ensures source { result ≢ Ending.Source }
+    ensures disk_faults { G.disk_faults ground.new ≡ G.disk_faults ground.old }
+    ensures disk { G.tells → LeavesDisk (G.state ground.old) (G.state ground.new) }
+{
+    match tell_bad(alloc, ground, line, why) {
+        Ok(()) => Ending::Bad(why),
+        Err(stop) => ending_of(stop),
+    }
+}
+
+// One turn: a request is read and answered, or the conversation ends.
+fn turn<G: Ground, S: Source, C: Clock>(
+    alloc: Global,
+    store: &mut Store,
+    ground: &mut G,
+    source: &mut S,
+    clock: &mut C,
+    line: u32,
+    limits: &Limits,
+    wire: &mut Wire,
+    buf: &mut [u8],
+    most: u32,
+) -> Result<(), Ending>
+    requires between { wire.old.phase ≡ Between }
+    requires room { 0 < length buf.old }
+    ensures turns { G.tells → S.tells → C.tells → OnOk result (TakesTurn limits.now most (C.moments clock.old) (C.moments clock.new) store.old store.new
+        (wire.old.ahead ++ S.left source.old) (wire.new.ahead ++ S.left source.new) ((G.state ground.old).told line) ((G.state ground.new).told line)) }
+    ensures ends { G.tells → S.tells → C.tells → IfErr result (λ ending. AtStreamEnd ending (Answers limits.now most (C.moments clock.old) store.old (wire.old.ahead ++ S.left source.old)
+        ((G.state ground.old).told line) ((G.state ground.new).told line) store.new)) }
+    ensures some { OnOk result (0 < most) }
+    ensures phase { OnOk result (wire.new.phase ≡ Between) }
+    ensures tell_fault { IsErrOf result Ending.Tell → Rose (G.tell_faults ground.old line) (G.tell_faults ground.new line) }
+    ensures quiet { result ≢ Err Ending.Tell → G.tell_faults ground.new ≡ G.tell_faults ground.old }
+    ensures source_fault { IsErrOf result Ending.Source → Rose (S.faults source.old) (S.faults source.new) }
+    ensures source_quiet { result ≢ Err Ending.Source → S.faults source.new ≡ S.faults source.old }
+    ensures no_disk { result ≢ Err Ending.Disk }
+    ensures disk_faults { G.disk_faults ground.new ≡ G.disk_faults ground.old }
+    ensures disk { G.tells → LeavesDisk (G.state ground.old) (G.state ground.new) }
+{
+    match wire.next_head(alloc, source, limits) {
+        Err(WireFault::Source) => Err(Ending::Source),
+        Err(WireFault::Memory) => Err(Ending::Memory),
+        Ok(NextHead::End) => Err(Ending::End),
+        Ok(NextHead::Cut) => {
+            if most == 0 {
+                return Err(Ending::TooMany);
+            }
+            Err(Ending::Cut)
+        }
+        Ok(NextHead::Bad(why)) => {
+            if most == 0 {
+                return Err(Ending::TooMany);
+            }
+            Err(end_bad(alloc, ground, line, why))
+        }
+        Ok(NextHead::Head(request)) => {
+            if most == 0 {
+                return Err(Ending::TooMany);
+            }
+            turn_on(
+                alloc, store, ground, source, clock, line, limits, wire, buf, most, &request,
+            )
+        }
+    }
+}
+
+/// Answers the requests of one stream, one after the other, on a line.
+pub fn converse<G: Ground, S: Source, U: Upstream, C: Clock, L: Ledger>(
+    alloc: Global,
+    store: &mut Store,
+    ground: &mut G,
+    source: &mut S,
+    _upstream: &mut U,
+    clock: &mut C,
+    line: u32,
+    limits: &Limits,
+    _steps: &mut Steps<L>,
+) -> Ending
+    ensures answers { G.tells → S.tells → C.tells → AtStreamEnd result (Answers limits.now limits.now.requests (C.moments clock.old) store.old (S.left source.old)
+        ((G.state ground.old).told line) ((G.state ground.new).told line) store.new) }
+    ensures tell_fault { result ≡ Ending.Tell → Rose (G.tell_faults ground.old line) (G.tell_faults ground.new line) }
+    ensures quiet { result ≢ Ending.Tell → G.tell_faults ground.new ≡ G.tell_faults ground.old }
+    ensures source_fault { result ≡ Ending.Source → Rose (S.faults source.old) (S.faults source.new) }
+    ensures source_quiet { result ≢ Ending.Source → S.faults source.new ≡ S.faults source.old }
+    ensures no_disk { result ≢ Ending.Disk }
+    ensures disk_faults { G.disk_faults ground.new ≡ G.disk_faults ground.old }
+    ensures disk { G.tells → LeavesDisk (G.state ground.old) (G.state ground.new) }
+{
+    let Ok(mut wire) = Wire::new(alloc) else {
+        return Ending::Memory;
+    };
+    let Ok(mut buf) = vec![in alloc; 0u8; 65536] else {
+        return Ending::Memory;
+    };
+    let mut most = limits.requests;
+    'requests: loop {
+        let turned = turn(
+            alloc, store, ground, source, clock, line, limits, &mut wire, &mut buf, most,
+        );
+        match turned {
+            Ok(()) => most -= 1,
+            Err(ending) => return ending,
+        }
+    }
+}
