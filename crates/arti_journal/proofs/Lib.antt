@@ -1,0 +1,6 @@
+mod Bytes
+mod Appends
+mod Makes
+mod Chains
+mod Progress
+mod Opens
