@@ -50,8 +50,7 @@ some_rest bodies bytes follow = omega (arith, ap length follow.whole, length-app
 pub head_fits : (bodies : List (List ℕ)) (bytes : List ℕ) (len : ℕ) → Follow bodies bytes → get_or bytes 0 0 ≡ 1 → len ≡ from_be_bytes w32 (take 4 (drop 1 bytes)) → HasRoom len (length bytes)
 head_fits bodies bytes len follow is read =
     let b = begins bodies bytes follow is in
-    let size : len ≡ length b.0 = read ∙ ap (λ (l : List ℕ). from_be_bytes w32 (take 4 (drop 1 l))) b.5 ∙ length_read b.0 b.2 b.4 in
-    (
+    let size : len ≡ length b.0 = read ∙ ap (λ (l : List ℕ). from_be_bytes w32 (take 4 (drop 1 l))) b.5 ∙ length_read b.0 b.2 b.4 in (
       omega (arith, size, b.4.some),
       omega (arith, size, b.4.most),
       omega (arith, size, ap length b.5, length-append (opened_record b.0) b.2, length-append (to_be_bytes w32 (length b.0)) b.0, some_rest b.1 b.2 b.6),

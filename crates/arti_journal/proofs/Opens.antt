@@ -31,8 +31,8 @@ pub opening_now : (old mid new : State) (file : ℕ) → IsSound mid → IsSound
 opening_now old mid new file sound end durable files told passes =
     ⊎_elim
     (λ was.
-      let now = sound.only_now new.files new.told was in
-      subst (λ (b : Bytes). Opening old file b new.told) (sym (durable new.files now.0))
-      (subst (λ (b : Bytes). Opening old file mid.files b) (sym now.1) (opening_from old mid file mid.files mid.told files told (not_yet mid file))))
+    let now = sound.only_now new.files new.told was in
+    subst (λ (b : Bytes). Opening old file b new.told) (sym (durable new.files now.0))
+    (subst (λ (b : Bytes). Opening old file mid.files b) (sym now.1) (opening_from old mid file mid.files mid.told files told (not_yet mid file))))
     (λ here. opening_from old mid file new.files new.told files told here)
     (passes.each mid.moment new.files new.told (omega arith) (end.counts_now mid.moment new.files passes.later end.stays))

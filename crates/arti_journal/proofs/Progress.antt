@@ -34,7 +34,7 @@ one_read bytes bodies body place read begins =
       fits = All-append IsBody bodies (body ∷ []) read.fits (All-cons IsBody body [] begins.fits (All-nil IsBody));
       place_is = omega (arith, read.place_is, length-opened bodies body);
       whole = read.whole ∙ ap (λ (l : List ℕ). opened bodies ++ l) begins.whole ∙ append_assoc header (records bodies) (opened_record body ++ rest)
-      ∙ ap (λ (l : List ℕ). header ++ l) (sym (records-push bodies body rest)) ∙ sym (append_assoc header (records (bodies ++ body ∷ [])) rest);
+          ∙ ap (λ (l : List ℕ). header ++ l) (sym (records-push bodies body rest)) ∙ sym (append_assoc header (records (bodies ++ body ∷ [])) rest);
       only = λ others follow.
           let was = read.only others follow in
           let next = steps was.0 (drop place bytes) body rest begins was.2 in
@@ -55,8 +55,7 @@ all_read bytes bodies place read within shut = record {
 pub behind_header : (bodies : List (List ℕ)) (bytes : List ℕ) → StandsFor bodies bytes → (take 16 bytes ≡ header) × Follow bodies (drop 16 bytes)
 unfolding header
 behind_header bodies bytes stands =
-    let split : bytes ≡ header ++ (records bodies ++ stands.gate ∷ stands.rest) = stands.whole ∙ append_assoc header (records bodies) (stands.gate ∷ stands.rest) in
-    (
+    let split : bytes ≡ header ++ (records bodies ++ stands.gate ∷ stands.rest) = stands.whole ∙ append_assoc header (records bodies) (stands.gate ∷ stands.rest) in (
       ap (λ (l : List ℕ). take 16 l) split,
       record { gate = stands.gate; rest = stands.rest; shut = stands.shut; fits = stands.fits; whole = ap (λ (l : List ℕ). drop 16 l) split },
     )

@@ -126,5 +126,4 @@ fn read_or_make<G: Ground>(
 /// The bytes of a file stand for one list of bodies at most.
 pub fn one_list_of_bodies()
     ensures { (bodies others : List (List ℕ)) (bytes : List ℕ) → IsJournal bodies bytes → IsJournal others bytes → bodies ≡ others }
-{
-}
+{}

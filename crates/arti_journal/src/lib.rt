@@ -5,12 +5,12 @@ mod adding;
 mod fault;
 mod framed;
 mod journal;
-
 mod making;
 mod reading;
-
 
 pub use fault::{AppendFault, FrameFault, JournalFault};
 pub use framed::{Framed, frame};
 pub use journal::{Journal, one_list_of_bodies};
 
+#[cfg(test)]
+mod tests;
