@@ -4,3 +4,4 @@ mod Makes
 mod Chains
 mod Progress
 mod Opens
+mod Pieces

@@ -1,5 +1,5 @@
 -- Words of the parts of appending, making and reading.
-use Rattle.std.specs.Prelude.{◌≡◌, ◌≢◌, ℕ, ◌+◌, ◌≤◌, List, [], ◌∷◌, ◌++◌, length, All}
+use Rattle.std.specs.Prelude.{◌≡◌, ◌≢◌, ℕ, ◌+◌, ◌-◌, ◌<◌, ◌≤◌, List, [], ◌∷◌, ◌++◌, length, take, drop, All}
 use Rattle.std.specs.Int.{w32, to_be_bytes}
 use Rattle.arti_ground.specs.State.{Bytes, State}
 use Rattle.arti_journal.specs.Journal.{IsBody, opened_record, records}
@@ -38,3 +38,23 @@ pub record Making (start : State) (file : ℕ) (c w : Bytes) : Type 0 where
 -- a body may have this length, and so many bytes hold its record and the next gate
 abbrev pub HasRoom : ℕ → ℕ → Type 0
 HasRoom len rest = (1 ≤ len) × (len ≤ 67_108_864) × (len + 6 ≤ rest)
+
+-- what is held of a file: the place of its first byte, and the bytes from there on
+pub record Seen : Type 0 where
+  pub file : ℕ
+  pub from : ℕ
+  pub held : List ℕ
+
+-- the bytes that are held are those of the file
+pub record Shows (seen : Seen) (bytes : List ℕ) : Type 0 where
+  pub same : seen.held ≡ take (length seen.held) (drop seen.from bytes)
+
+-- the byte at a place is held
+abbrev pub Reaches : Seen → ℕ → Type 0
+Reaches seen at = (seen.from ≤ at) × (at < seen.from + length seen.held)
+
+-- n bytes of a file at a place were put into a buffer, and none only where there was none or no room
+pub record IsPiece (bytes : List ℕ) (at : ℕ) (before after : List ℕ) (n : ℕ) : Type 0 where
+  pub front : take n after ≡ take n (drop at bytes)
+  pub within : n ≤ length bytes - at
+  pub some : n ≡ 0 → at < length bytes → length before ≡ 0

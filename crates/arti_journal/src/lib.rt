@@ -7,6 +7,7 @@ mod framed;
 mod journal;
 mod making;
 mod reading;
+mod window;
 
 pub use fault::{AppendFault, FrameFault, JournalFault};
 pub use framed::{Framed, frame};

@@ -56,6 +56,24 @@ fn bytes_of_a_journal(rt: HostRuntime) -> Result<(), Fail> {
 }
 
 #[test]
+fn bodies_longer_than_a_piece(rt: HostRuntime) -> Result<(), Fail> {
+    let alloc = rt.alloc();
+    let mut ground = MemoryGround::new(alloc, 100, 400_000)?;
+    let mut body = vec![in alloc; 7u8; 131_000]?;
+    body.extend_from_slice(b"end")?;
+    assert_eq!(rt; add_body(alloc, &mut ground, &body, 400_000), Ok(131_025));
+    assert_eq!(rt;
+        add_body(alloc, &mut ground, b"short", 400_000),
+        Ok(131_035)
+    );
+    let bodies = bodies_in(alloc, &mut ground)?;
+    assert_eq!(rt; bodies.len(), 2);
+    assert_eq!(rt; bodies[0].as_slice(), body.as_slice());
+    assert_eq!(rt; bodies[1].as_slice(), b"short".as_slice());
+    Ok(())
+}
+
+#[test]
 fn files_that_are_none(rt: HostRuntime) -> Result<(), Fail> {
     let alloc = rt.alloc();
     let none: Result<usize, JournalFault> = Err(JournalFault::NotAJournal);

@@ -13,7 +13,7 @@ returns-in_err-read_head-clause-none g c = λ tells is bodies follow.
 
 pub returns-in_ok-read_body-in-Some-clause-body : goal.returns-in_ok-read_body-in-Some-clause-body
 returns-in_ok-read_body-in-Some-clause-body g c = λ tells.
-    let bytes = (g.G.Ground.state c.args.outside.now).files c.args.file in
+    let bytes = (g.G.Ground.state c.args.outside.now).files c.args.window.now.file in
     let front : take 5 (drop c.args.place bytes) ≡ 1 ∷ to_be_bytes w32 c.in-Some.len = search rules in
     let room : HasRoom c.in-Some.len (c.args.size - c.args.place) = search rules in
     let is : c.in_ok-read_body-in-Some.field-0.items ≡ take c.in-Some.len (drop (c.args.place + 5) bytes) = search rules in
