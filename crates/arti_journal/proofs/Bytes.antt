@@ -6,7 +6,7 @@ use Rattle.std.specs.Int.{w32, to_be_bytes}
 use Rattle.arti_ground.specs.State.{Holds, Torn}
 use Rattle.std.specs.Prelude.{All}
 use Rattle.std.proofs.lemmas.List.Elements.{All-nil, All-cons, All-append}
-use Rattle.arti_journal.specs.Journal.{IsBody, records, opened, opened_record, StandsFor, header}
+use Rattle.arti_journal.specs.Journal.{IsBody, records, opened, StandsFor, header}
 use Rattle.arti_journal.specs.Parts.{framed}
 
 module _ (front : List ℕ) (gate : ℕ) (rest : List ℕ) where

@@ -1,12 +1,11 @@
 -- What stands at a gate is determined by the bytes behind it.
 use Rattle.std.proofs.Common.{◌≡◌, ◌≢◌, ℕ, ◌+◌, ◌-◌, ◌≤◌, ◌<◌, List, [], ◌∷◌, ◌++◌, length, get_or, take, drop, refl, sym, ◌∙◌, ap, subst, arith, append_assoc, length-append, length-drop, take-append-drop}
-use Rattle.std.specs.Prelude.{All}
 use Rattle.std.specs.Int.{w32, to_be_bytes, from_be_bytes}
-use Rattle.std.proofs.lemmas.List.{get_or-take, take_all, drop-take, get_or-drop, take_at, drop_at, drop-drop, append-nil}
-use Rattle.std.proofs.lemmas.List.Elements.{All-head, All-tail, All-nil, All-cons}
+use Rattle.std.proofs.lemmas.List.{get_or-take, take_all, drop-take, take_at, drop_at, drop-drop}
+use Rattle.std.proofs.lemmas.List.Elements.{All-head, All-tail}
 use Rattle.std.proofs.lemmas.Nat.{from_be_bytes-to_be_bytes_4}
 use Rattle.arti_ground.specs.State.{Reads}
-use Rattle.arti_journal.specs.Journal.{IsBody, records, opened, opened_record, StandsFor, IsJournal, header}
+use Rattle.arti_journal.specs.Journal.{IsBody, records, opened_record}
 use Rattle.arti_journal.specs.Parts.{Begins, Follow, HasRoom}
 
 length-four : (n : ℕ) → length (to_be_bytes w32 n) ≡ 4

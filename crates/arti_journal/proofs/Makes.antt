@@ -3,9 +3,8 @@ use Rattle.std.proofs.Common.{refl, ◌≡◌, ◌≢◌, ℕ, ◌≤◌, List, 
 use Rattle.std.proofs.lemmas.List.{length-take}
 use Rattle.arti_ground.specs.State.{Bytes, State, Holds, Cut, In, Follows, IsDurable, Passes, DiskTime, Writing}
 use Rattle.arti_ground.proofs.Moments.{passes_map, passes_then}
-use Rattle.std.specs.Prelude.{All}
 use Rattle.std.proofs.lemmas.List.Elements.{All-nil}
-use Rattle.arti_journal.specs.Journal.{IsBody, header, opened, StandsFor, HoldsJournal}
+use Rattle.arti_journal.specs.Journal.{IsBody, header, StandsFor, HoldsJournal}
 use Rattle.arti_journal.specs.Parts.{IsUnmade, Making}
 
 -- an image that comes from one of the start, with the file still short

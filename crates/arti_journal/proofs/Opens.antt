@@ -1,7 +1,7 @@
 -- What a crash leaves while a journal is opened.
-use Rattle.std.proofs.Common.{◌≡◌, ◌≢◌, ℕ, ◌≤◌, List, length, sym, ◌∙◌, ap, subst, arith, inl, inr, ◌⊎◌, ⊎_elim, refl}
-use Rattle.arti_ground.specs.State.{Bytes, State, IsDurable, Passes, IsSound, LeavesDisk, OnlyReads, SinceSync, AfterSync, DiskTime}
-use Rattle.arti_ground.proofs.Moments.{passes_map, reads_one, since_here}
+use Rattle.std.proofs.Common.{◌≡◌, ℕ, ◌≤◌, length, sym, ◌∙◌, ap, subst, arith, inl, ◌⊎◌, ⊎_elim, refl}
+use Rattle.arti_ground.specs.State.{Bytes, State, IsDurable, Passes, IsSound, SinceSync}
+use Rattle.arti_ground.proofs.Moments.{passes_map, since_here}
 use Rattle.arti_journal.specs.Journal.{Opening}
 
 -- a sync leaves what reads give and what was told

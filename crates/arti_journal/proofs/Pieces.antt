@@ -1,10 +1,9 @@
 -- What is copied from a part of a file.
-use Rattle.std.proofs.Common.{◌≡◌, ◌≢◌, inl, inr, ℕ, ◌+◌, ◌-◌, ◌≤◌, ◌<◌, List, ◌++◌, length, take, drop, refl, sym, ◌∙◌, ap, subst, arith, length-append, length-drop, take-append-drop}
+use Rattle.std.proofs.Common.{◌≡◌, ◌≢◌, inl, inr, ℕ, ◌+◌, ◌-◌, ◌≤◌, ◌<◌, List, ◌++◌, length, take, drop, sym, ◌∙◌, ap, arith, length-drop, take-append-drop}
 use Rattle.std.specs.Prelude.{min}
 use Rattle.std.proofs.Math.Seq.{take-append-add}
-use Rattle.std.proofs.lemmas.List.{take-append-le, take_at, drop-drop, drop-take, take-take, length-take, length-take-le}
+use Rattle.std.proofs.lemmas.List.{take-append-le, take_at, drop-drop, drop-take, take-take, length-take}
 use Rattle.std.proofs.lemmas.Bool.{cases_eq}
-use Rattle.arti_ground.specs.State.{Reads}
 use Rattle.arti_journal.specs.Parts.{Seen, Shows, Reaches, IsPiece}
 
 -- a part of the first bytes is that part of them all

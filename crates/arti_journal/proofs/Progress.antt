@@ -1,9 +1,8 @@
 -- How far the records of a journal were read.
-use Rattle.std.proofs.Common.{inl, inr, ◌≡◌, ◌≢◌, ℕ, ◌+◌, ◌≤◌, ◌<◌, List, [], ◌∷◌, ◌++◌, length, get_or, take, drop, refl, sym, ◌∙◌, ap, subst, arith, add-one, append_assoc, length-append, length-drop, take-append-drop, drop-cons}
+use Rattle.std.proofs.Common.{inl, inr, ◌≡◌, ◌≢◌, ℕ, ◌+◌, ◌≤◌, ◌<◌, List, [], ◌∷◌, ◌++◌, length, get_or, take, drop, refl, sym, ◌∙◌, ap, arith, add-one, append_assoc, length-append, take-append-drop, drop-cons}
 use Rattle.std.specs.Prelude.{All}
-use Rattle.std.proofs.lemmas.List.{take_all, take_at, drop_at, append-nil}
+use Rattle.std.proofs.lemmas.List.{take_all, append-nil}
 use Rattle.std.proofs.lemmas.List.Elements.{All-nil, All-cons, All-head, All-tail, All-append}
-use Rattle.std.specs.Int.{w32, to_be_bytes}
 use Rattle.arti_ground.specs.State.{Reads}
 use Rattle.arti_journal.specs.Journal.{IsBody, records, opened, opened_record, StandsFor, IsJournal, header}
 use Rattle.arti_journal.specs.Parts.{Begins, Follow}

@@ -1,4 +1,3 @@
-use Rattle.std.proofs.Common.{◌≡◌}
 use Rattle.arti_journal.proofs.Appends.{first_moments, all_moments, leaves}
 use Rattle.arti_journal.proofs.adding.add.Goals as goal
 

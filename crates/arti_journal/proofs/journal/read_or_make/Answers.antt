@@ -1,4 +1,4 @@
-use Rattle.std.proofs.Common.{◌≡◌, ◌<◌, ◌≤◌, ℕ, List, length, ⊎_elim, subst, sym, arith}
+use Rattle.std.proofs.Common.{⊎_elim, subst, sym, arith}
 use Rattle.std.proofs.lemmas.Result.{err_from_is_err_and}
 use Rattle.arti_ground.specs.State.{Bytes}
 use Rattle.arti_journal.specs.Journal.{StandsFor}

@@ -1,7 +1,6 @@
-use Rattle.std.proofs.Common.{rules, ◌≡◌, ◌+◌, ℕ, List, ◌<◌, ◌-◌, length, take, drop, ◌∷◌, sym, ◌∙◌, ap}
+use Rattle.std.proofs.Common.{rules, ◌≡◌, ◌+◌, ◌-◌, take, drop, ◌∷◌}
 use Rattle.std.proofs.lemmas.Result.{err_from_is_err_and}
 use Rattle.std.specs.Int.{w32, to_be_bytes}
-use Rattle.arti_ground.specs.State.{State}
 use Rattle.arti_journal.specs.Parts.{HasRoom}
 use Rattle.arti_journal.proofs.Chains.{record_read}
 use Rattle.arti_journal.proofs.reading.next_body.Goals as goal

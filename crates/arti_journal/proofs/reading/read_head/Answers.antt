@@ -1,5 +1,4 @@
-use Rattle.std.proofs.Common.{rules, ◌≡◌, ℕ, List, [], ◌∷◌, ◌<◌, ◌≤◌, ◌-◌, length, take, drop, get_or, refl, ap, sym, ◌∙◌, arith}
-use Rattle.std.specs.Int.{w32, to_be_bytes, from_be_bytes}
+use Rattle.std.proofs.Common.{rules, ◌≡◌, ◌-◌, length, refl, sym, ◌∙◌}
 use Rattle.arti_journal.specs.Parts.{HasRoom}
 use Rattle.arti_journal.proofs.Chains.{no_head, no_room, head_is, open_read}
 use Rattle.arti_journal.proofs.reading.read_head.Goals as goal

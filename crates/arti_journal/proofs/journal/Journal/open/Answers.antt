@@ -1,4 +1,4 @@
-use Rattle.std.proofs.Common.{◌≡◌, ℕ, List, subst, sym, inl}
+use Rattle.std.proofs.Common.{subst, sym, inl}
 use Rattle.arti_ground.specs.State.{Bytes}
 use Rattle.arti_journal.specs.Journal.{IsJournal}
 use Rattle.arti_journal.proofs.Opens.{opening_since, opening_now}

@@ -1,4 +1,4 @@
-use Rattle.std.proofs.Common.{rules, ◌≡◌, ◌+◌, ◌-◌, ◌≤◌, length, take, drop, ℕ, List, ap, ◌∙◌, arith}
+use Rattle.std.proofs.Common.{rules, ◌≡◌, ◌+◌, ◌-◌, length, take, drop, ap, ◌∙◌, arith}
 use Rattle.arti_journal.specs.Parts.{Seen}
 use Rattle.arti_journal.proofs.Pieces.{copied_from}
 use Rattle.arti_journal.proofs.window.Window.give.Goals as goal

@@ -1,9 +1,9 @@
-use Rattle.std.proofs.Common.{rules, ◌≡◌, ◌+◌, ◌-◌, ◌≤◌, ◌++◌, ℕ, List, length, take, drop, subst, sym, ap, ◌∙◌, arith, length-append, length-drop}
-use Rattle.std.proofs.lemmas.List.{length-take, length-take-le}
-use borrow.Rule.Slice.PartMut.{put_mid, post_of}
-use Rattle.arti_ground.specs.State.{State, Bytes}
+use Rattle.std.proofs.Common.{rules, ◌≡◌, ◌+◌, ◌-◌, ◌≤◌, ◌++◌, ℕ, length, take, drop, subst, ◌∙◌, arith, length-append}
+use Rattle.std.proofs.lemmas.List.{length-take-le}
+use borrow.Rule.Slice.PartMut.{post_of}
+use Rattle.arti_ground.specs.State.{Bytes}
 use Rattle.arti_ground.proofs.Moments.{reads_then}
-use Rattle.arti_journal.specs.Parts.{Seen, Shows, IsPiece}
+use Rattle.arti_journal.specs.Parts.{Shows, IsPiece}
 use Rattle.arti_journal.proofs.Pieces.{more_read_in}
 use Rattle.arti_journal.proofs.window.Window.read.Goals as goal
 

@@ -1,5 +1,3 @@
-use Rattle.std.proofs.Common.{◌≡◌, ◌<◌, ◌+◌, ℕ, List, length, subst, sym, ap}
-use Rattle.arti_journal.specs.Parts.{Reaches}
 use Rattle.arti_journal.proofs.Pieces.{given}
 use Rattle.arti_journal.proofs.window.Window.read_piece.Goals as goal
 
