@@ -1,0 +1,57 @@
+-- The repository: lists of rows, without index.
+use Rattle.std.specs.Prelude.{ℕ, ℤ, Bool, ◌&&◌, nat_eq, List, [], Option, is_some}
+use Rattle.std.specs.List.{find, list_any}
+use Rattle.std.specs.Cmp.Lexicographic.{pointwise}
+use Rattle.arti_rows.specs.Key.{Key}
+use Rattle.arti_rows.specs.declared.rows.Digests.{Digests}
+use Rattle.arti_rows.specs.declared.rows.Given.{Given}
+use Rattle.arti_rows.specs.declared.rows.Property.{Property}
+use Rattle.arti_rows.specs.declared.rows.Stat.{Stat}
+
+-- a file's whole content and the digests that were recorded of it
+pub record File : Type 0 where
+  pub content : List ℕ
+  pub digests : Digests
+
+-- an item: a file, or a folder where it has none
+pub record Item : Type 0 where
+  pub key : Key
+  pub created : ℤ
+  pub created_by : List ℕ
+  pub modified : ℤ
+  pub modified_by : List ℕ
+  pub updated : ℤ
+  pub given : Given
+  pub file : Option File
+  pub props : List Property
+  pub stat : Option Stat
+
+-- all that a repository holds
+pub record Repository : Type 0 where
+  pub items : List Item
+
+-- the repository of a new store
+abbrev pub opening : Repository
+opening = record { items = [] }
+
+-- ---- look-ups
+
+-- two keys are one
+abbrev pub same_key : Key → Key → Bool
+same_key a b = pointwise nat_eq a.repo b.repo && pointwise nat_eq a.path b.path && pointwise nat_eq a.name b.name
+
+-- the item of a key
+abbrev pub find_item : List Item → Key → Option Item
+find_item items key = find (λ item. same_key item.key key) items
+
+-- whether the item is a file
+abbrev pub is_file : Item → Bool
+is_file item = is_some item.file
+
+-- whether a file stands at the key
+abbrev pub has_file : List Item → Key → Bool
+has_file items key = list_any (λ item. same_key item.key key && is_file item) items
+
+-- whether something stands at the key
+abbrev pub has_item : List Item → Key → Bool
+has_item items key = list_any (λ item. same_key item.key key) items

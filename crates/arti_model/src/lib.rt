@@ -1,0 +1,42 @@
+//! What the program's promises speak of: definitions on lists of bytes, and laws about them.
+#![tactic(auto)]
+
+ghost use Rattle.std.specs.Prelude.{◌≡◌, ℕ, List};
+ghost use Rattle.arti_model.specs.Requests.{Start, Begins, Whole, Ending, RequestBytes};
+
+/// Why the bytes of a stream are no request.
+#[derive(Clone, Copy, Debug, PartialEq, Eq, Hash)]
+pub enum Why {
+    /// The bytes begin with no request head, or too many line ends stand before it.
+    BadHead,
+    /// The head has too many bytes or lines.
+    HeadTooLarge,
+    /// `Content-Length` isn't one number, or `Transfer-Encoding` stands beside it.
+    BadLength,
+    /// The body has a transfer coding.
+    UnknownCoding,
+    /// The body is longer than one content may be.
+    BodyTooLarge,
+}
+
+/// Bytes begin with one thing.
+pub fn bytes_begin_with_one_thing()
+    ensures { (content : ℕ) (bytes : List ℕ) (s t : Start) → Begins content bytes s → Begins content bytes t → s ≡ t }
+{}
+
+/// Bytes are requests, and end, in one way.
+pub fn bytes_are_read_in_one_way()
+    ensures { (content most : ℕ) (bytes : List ℕ) (qs rs : List Whole) (e f : Ending)
+        → RequestBytes content most bytes qs e → RequestBytes content most bytes rs f → (qs ≡ rs) × (e ≡ f) }
+{}
+
+ghost use Rattle.std.specs.Prelude.{ℤ};
+ghost use Rattle.arti_rows.specs.declared.limits.Limits.{Limits};
+ghost use Rattle.arti_model.specs.Store.{Repository};
+ghost use Rattle.arti_model.specs.Run.{AnswersAll, run_bytes};
+
+/// The bytes of a run are determined, where no request found too little memory.
+pub fn steps_answer_all()
+    ensures { (limits : Limits) (moments : List ℤ) (r : Repository) (qs : List Whole) (ending : Ending)
+        → AnswersAll limits moments r qs ending (run_bytes limits moments r qs ending) }
+{}

@@ -1,0 +1,4 @@
+pub mod Moments
+pub mod Key
+pub mod Names
+pub mod LimitsOf

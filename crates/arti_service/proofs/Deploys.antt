@@ -1,0 +1,40 @@
+-- What a step is, case by case.
+use Rattle.std.proofs.Common.{◌≡◌, ℕ, ℤ, Bool, true, cond, List, [], ◌∷◌, ◌++◌, length, ap, ◌∙◌}
+use Rattle.std.specs.Prelude.{Some, None, false, codes}
+use Rattle.arti_rows.specs.Key.{Key}
+use Rattle.arti_rows.specs.declared.limits.Limits.{Limits}
+use Rattle.arti_model.specs.Bodies.{json_reply, deploy_body, deployed_body}
+use Rattle.arti_model.specs.Store.{Repository, File}
+use Rattle.arti_model.specs.Requests.{Whole}
+use Rattle.arti_model.specs.Step.{Answer, digests_of, can_deploy, with_file, new_file, anonymous, not_yet, deploy, fetch, item_asked, has_method, step_on, step}
+
+module _ (limits : Limits) (r : Repository) (moment : ℤ) (key : Key) (content : List ℕ) (can : can_deploy limits r.items key ≡ true) where
+  abbrev file : File
+  file = record { content = content; digests = digests_of content }
+
+  abbrev accepted : Answer
+  accepted = record {
+    repository = record { items = with_file r.items moment anonymous key file };
+    reply = json_reply 201 (deploy_body (new_file moment anonymous key file) file);
+  }
+
+  is_accepted : deploy limits r moment key content ≡ accepted
+  is_accepted = ap (λ (b : Bool). cond b accepted (not_yet r)) can
+
+  pub accepted_reply : (deploy limits r moment key content).reply ≡ json_reply 201 (deployed_body key moment anonymous (length content) (digests_of content))
+  accepted_reply = ap (λ (a : Answer). a.reply) is_accepted
+
+  pub accepted_items : (deploy limits r moment key content).repository.items ≡ with_file r.items moment anonymous key file
+  accepted_items = ap (λ (a : Answer). a.repository.items) is_accepted
+
+module _ (limits : Limits) (r : Repository) (q : Whole) (moment : ℤ) where
+  -- a request that names no item
+  pub names_none : item_asked q.head ≡ None → step limits r q moment ≡ not_yet r
+  names_none e = ap (step_on limits r q moment) e
+
+  -- a request that names an item by another method
+  pub other_method : (key : Key) → item_asked q.head ≡ Some key → has_method q.head (codes "PUT") ≡ false → has_method q.head (codes "GET") ≡ false → step limits r q moment ≡ not_yet r
+  other_method key e put get =
+      ap (step_on limits r q moment) e
+      ∙ ap (λ (b : Bool). cond b (deploy limits r moment key q.body) (cond (has_method q.head (codes "GET")) (fetch r key) (not_yet r))) put
+      ∙ ap (λ (b : Bool). cond b (fetch r key) (not_yet r)) get

@@ -1,0 +1,2 @@
+mod Deploys
+mod Pieces

@@ -1,0 +1,9 @@
+//! Moments and spans of time as texts.
+#![tactic(auto)]
+
+mod civil;
+mod laws;
+mod printing;
+
+pub use laws::printed_writes_the_moment;
+pub use printing::{append, print};
