@@ -1,2 +1,5 @@
 pub mod Civil
 pub mod Printed
+pub mod Dates
+pub mod Front
+pub mod DateReader

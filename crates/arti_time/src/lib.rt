@@ -2,6 +2,8 @@
 #![tactic(auto)]
 
 mod civil;
+mod dates;
+mod front;
 mod laws;
 mod printing;
 
