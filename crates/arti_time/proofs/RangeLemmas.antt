@@ -59,7 +59,7 @@ day_number_range c h =
     let count = days_from_civil-day_count (pos c.year) c.month c.day in
     (omega (arith, signed_arith, count, day_least c h), omega (arith, signed_arith, count, day_count_bounds (pos c.year) c.month c.day (calendar c h)))
 
-in_moments : (m : ℤ) → Decides (int_le (negsuc 62135596799999) m && int_le m (pos 253402300799999)) (IsMoment m)
+pub in_moments : (m : ℤ) → Decides (int_le (negsuc 62135596799999) m && int_le m (pos 253402300799999)) (IsMoment m)
 in_moments m = ((λ e. (grind (arith, signed_arith), grind (arith, signed_arith))), (λ h. grind (arith, signed_arith)))
 
 pick : (r : Option ℤ) (m : ℤ) (b : Bool) → Decides b (IsMoment m) → (IsSome r ↔ IsMoment m) → IfSome r (λ v. v ≡ m) → r ≡ cond b (Some m) None

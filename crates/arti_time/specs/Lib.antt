@@ -3,3 +3,4 @@ pub mod Printed
 pub mod Dates
 pub mod Front
 pub mod DateReader
+pub mod Spans
