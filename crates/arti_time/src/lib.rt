@@ -15,3 +15,6 @@ pub use laws::{
 };
 pub use printing::{append, print};
 pub use spans::{NotASpan, read_span};
+
+#[cfg(test)]
+mod tests;
