@@ -1,11 +1,11 @@
 -- The reader of dates reads exactly the texts of dates.
-use Rattle.std.proofs.Common.{◌≡◌, ◌⊎◌, inl, inr, ⊎_elim, ℕ, zero, suc, ◌+◌, ◌-◌, ◌*◌, ◌/◌, ◌%◌, ◌<◌, ◌≤◌, Bool, true, false, cond, ◌&&◌, ◌||◌, not, List, [], ◌∷◌, ◌++◌, length, take, drop, Option, Some, None, Result, Ok, Err, IfOk, OnErr, refl, sym, ap, ◌∙◌, subst, arith, ℤ, pos, negsuc, neg_ℤ, ◌+ℤ◌, ◌-ℤ◌, ◌*ℤ◌, append-nil}
-use Rattle.std.specs.Prelude.{All, codes, slice_index, option_and_then, option_map, nat_lt, int_le, ◌==◌, if◌then◌else◌}
+use Rattle.std.proofs.Common.{◌≡◌, ℕ, ◌+◌, ◌*◌, ◌/◌, ◌%◌, ◌<◌, ◌≤◌, Bool, true, false, cond, ◌&&◌, ◌||◌, List, [], ◌∷◌, ◌++◌, length, take, drop, Option, Some, None, Result, IfOk, OnErr, refl, sym, ap, ◌∙◌, subst, arith, ℤ, pos, negsuc, neg_ℤ, ◌+ℤ◌, ◌-ℤ◌, ◌*ℤ◌}
+use Rattle.std.specs.Prelude.{All, codes, option_and_then, nat_lt, int_le, ◌==◌, if◌then◌else◌}
 use Rattle.std.specs.Option.{ok_or}
 use Rattle.std.specs.List.{prefix_len}
 use Rattle.std.specs.Char.{is_ascii_digit, IsAsciiDigit}
 use Rattle.std.specs.Int.{IsInRange}
-use Rattle.std.proofs.lemmas.Bool.{false≢true, eqb-true, ltb-true}
+use Rattle.std.proofs.lemmas.Bool.{eqb-true, ltb-true}
 use Rattle.std.proofs.lemmas.Bool.Decides.{nat_tests}
 use Rattle.std.proofs.lemmas.List.{take_at, drop_at, take-append-drop}
 use Rattle.std.proofs.lemmas.List.Folds.{length-prefix_len}
@@ -16,8 +16,8 @@ use Rattle.arti_time.specs.declared.civil.Civil.{Civil}
 use Rattle.arti_time.specs.declared.dates.NotADate.{NotADate}
 use Rattle.arti_time.specs.Civil.{IsMoment, IsCivil, is_date, time_of_day, day_number, moment_of}
 use Rattle.arti_time.specs.Printed.{digits, written_date}
-use Rattle.arti_time.specs.Front.{Front, ◌>>=◌, two_digits, four_digits, after}
-use Rattle.arti_time.specs.Dates.{Zone, Unnamed, Zulu, East, West, DateText, Day, Time, offset_text, zone_text, fraction_text, clock_text, date_text, minutes_east, milliseconds_of, IsOffset, IsZone, IsDateText, meant, ReadsDate}
+use Rattle.arti_time.specs.Front.{two_digits, four_digits, after}
+use Rattle.arti_time.specs.Dates.{Zone, Unnamed, Zulu, East, West, Day, Time, offset_text, zone_text, fraction_text, clock_text, date_text, minutes_east, milliseconds_of, IsOffset, IsZone, IsDateText, meant, ReadsDate}
 use Rattle.arti_time.specs.DateReader.{midnight, date_front, fraction_front, at_time, time_front, skip_colon, whole_offset, offset_minutes, only_zulu, zone_east, time_and_zone, moment_at, date_of}
 use Rattle.arti_time.proofs.RangeLemmas.{HasDate, is_date_tells, in_moments}
 use Rattle.arti_time.proofs.FrontLemmas.{by_bool, some≢none, some_is, then_some, when_some, when_none, both_true, two_digits_sound, two_digits_complete, four_digits_sound, four_digits_complete, after_sound, after_complete, front_digits, BeginsPlain, prefix_len-digits}

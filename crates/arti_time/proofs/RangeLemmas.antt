@@ -1,18 +1,17 @@
 -- Tests of dates and moments, and the range of days.
-use Rattle.std.proofs.Common.{◌≡◌, ◌⊎◌, inl, inr, ⊎_elim, ◌↔◌, ℕ, zero, suc, ◌+◌, ◌-◌, ◌*◌, ◌<◌, ◌≤◌, ◌^◌, Bool, true, false, cond, ◌&&◌, Option, Some, None, IsSome, IfSome, refl, sym, ap, ◌∙◌, subst, arith, ℤ, pos, negsuc, ◌+ℤ◌, ◌-ℤ◌, ◌*ℤ◌, ◌≤ℤ◌, ◌<ℤ◌, to_z, w8, w16, Fits}
+use Rattle.std.proofs.Common.{◌≡◌, ◌↔◌, ℕ, ◌<◌, ◌≤◌, Bool, true, false, cond, ◌&&◌, Option, Some, None, IsSome, IfSome, refl, ap, arith, ℤ, pos, negsuc, ◌≤ℤ◌, to_z, w8, w16}
 use Rattle.std.specs.Prelude.{int_le}
 use Rattle.std.proofs.lemmas.Bool.{false≢true}
 use Rattle.std.specs.Bool.{Decides}
 use Rattle.std.specs.Int.{is_in_range, IsInRange}
 use Rattle.std.proofs.lemmas.Bool.Decides.{nat_tests, Decides-and, same_from_decides, Decides-like}
 use Rattle.std.proofs.lemmas.Int.{by_lt_z}
-use Rattle.jiff_core.specs.Calendar.{days_in_month, day_count, days_from_civil, IsDate, IsCivilDate}
-use Rattle.jiff_core.proofs.SignedLemmas.{signed_arith, signed_casts}
+use Rattle.jiff_core.specs.Calendar.{days_in_month, day_count, IsDate}
+use Rattle.jiff_core.proofs.SignedLemmas.{signed_arith}
 use Rattle.jiff_core.proofs.CalendarLemmas.{days_from_civil-day_count, day_count_bounds, day_count-later_year, day_count-day_of_year}
 use mir.Facts.{to_z_pos}
-use borrow.Author.Differences.{up, down}
 use Rattle.arti_time.specs.declared.civil.Civil.{Civil}
-use Rattle.arti_time.specs.Civil.{IsMoment, IsCivil, is_date, day_number, moment_of}
+use Rattle.arti_time.specs.Civil.{IsMoment, IsCivil, is_date, day_number}
 use Rattle.arti_time.specs.DateReader.{moment_at}
 use Rattle.arti_time.proofs.CivilLemmas.{day_count-first_year}
 use Rattle.arti_time.proofs.PrintedLemmas.{calendar}

@@ -1,5 +1,5 @@
 -- What is printed is read back.
-use Rattle.std.proofs.Common.{◌≡◌, ℕ, ◌+◌, ◌-◌, ◌*◌, ◌/◌, ◌%◌, ◌<◌, List, [], ◌∷◌, Some, refl, sym, ap, ◌∙◌, arith, ℤ, pos, ◌+ℤ◌, ◌-ℤ◌, ◌*ℤ◌}
+use Rattle.std.proofs.Common.{◌≡◌, ℕ, ◌+◌, ◌/◌, ◌%◌, ◌<◌, [], ◌∷◌, Some, refl, arith, ℤ, pos, ◌-ℤ◌, ◌*ℤ◌}
 use Rattle.std.specs.Prelude.{All}
 use Rattle.std.specs.Char.{IsAsciiDigit}
 use Rattle.std.proofs.lemmas.Int.{ints}

@@ -1,22 +1,21 @@
 -- The reader of spans reads exactly the texts of spans.
-use Rattle.std.proofs.Common.{◌≡◌, ℕ, zero, suc, ◌+◌, ◌-◌, ◌*◌, ◌^◌, ◌<◌, ◌≤◌, Bool, true, false, cond, ◌||◌, List, [], ◌∷◌, ◌++◌, length, get_or, take, drop, Option, Some, None, Result, Ok, Err, IfOk, OnErr, refl, sym, ap, ◌∙◌, subst, arith}
+use Rattle.std.proofs.Common.{◌≡◌, ℕ, zero, suc, ◌+◌, ◌-◌, ◌*◌, ◌^◌, ◌<◌, ◌≤◌, false, ◌||◌, List, [], ◌∷◌, ◌++◌, length, get_or, take, drop, Option, Some, None, Result, IfOk, OnErr, refl, sym, ap, ◌∙◌, subst, arith}
 use Rattle.std.proofs.Math.Nat.{pow-suc, pow-le-pow_right}
-use Rattle.std.specs.Prelude.{All, Contains, slice_index_or, option_map, nat_lt, ◌==◌, IfSome}
+use Rattle.std.specs.Prelude.{All, Contains, slice_index_or, option_map, nat_lt, ◌==◌}
 use Rattle.std.specs.Option.{ok_or}
 use Rattle.std.specs.List.{prefix_len}
 use Rattle.std.specs.Str.{bytes_eq}
 use Rattle.std.specs.Str.Parse.{digits_value}
-use Rattle.std.specs.Char.{digit_value, is_ascii_digit, IsAsciiDigit}
+use Rattle.std.specs.Char.{is_ascii_digit, IsAsciiDigit}
 use Rattle.std.proofs.lemmas.Int.Digits.{digits_value_more}
 use Rattle.std.proofs.lemmas.Str.{digit_value_digit}
 use Rattle.std.proofs.lemmas.Slice.Eq.{bytes_eq-Decides}
-use Rattle.std.proofs.lemmas.Bool.{false≢true}
 use Rattle.std.proofs.lemmas.Bool.Decides.{nat_tests}
 use Rattle.std.proofs.lemmas.List.{take_at, drop_at, take-append-drop}
 use Rattle.std.proofs.lemmas.List.Folds.{length-prefix_len}
 use Rattle.arti_time.specs.declared.spans.NotASpan.{NotASpan}
-use Rattle.arti_time.specs.Spans.{SpanUnit, units, IsSpan, ReadsSpan, unit_among, span_of}
-use Rattle.arti_time.proofs.FrontLemmas.{by_bool, some≢none, some_is, when_none, front_digits, BeginsPlain, prefix_len-digits}
+use Rattle.arti_time.specs.Spans.{SpanUnit, units, ReadsSpan, unit_among, span_of}
+use Rattle.arti_time.proofs.FrontLemmas.{by_bool, some≢none, some_is, front_digits, BeginsPlain, prefix_len-digits}
 
 -- one digit more
 pub number_more : (bs : List ℕ) (i n d : ℕ) → i < length bs → IsAsciiDigit (get_or bs i 0) → d ≡ get_or bs i 0 - 48 → n ≡ digits_value 10 (take i bs) → n < 10 ^ i

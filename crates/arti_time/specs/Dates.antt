@@ -1,6 +1,5 @@
 -- The texts of dates: `YYYY-MM-DD`, or that with `THH:MM:SS`, a fraction of the second and a zone. A form of this project.
 use Rattle.std.specs.Prelude.{◌≡◌, ℕ, ◌+◌, ◌-◌, ◌*◌, ◌≤◌, ◌<◌, Bool, if◌then◌else◌, List, [], ◌∷◌, ◌++◌, length, codes, slice_index, ℤ, pos, neg_ℤ, ◌-ℤ◌, ◌*ℤ◌, All}
-use Rattle.std.specs.Int.{IsInRange}
 use Rattle.std.specs.Char.{IsAsciiDigit}
 use Rattle.arti_time.specs.declared.civil.Civil.{Civil}
 use Rattle.arti_time.specs.Civil.{IsMoment, IsCivil, time_of_day, moment_of}

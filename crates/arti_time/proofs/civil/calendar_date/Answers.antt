@@ -1,4 +1,4 @@
-use Rattle.std.proofs.Common.{◌≡◌, ◌∙◌, arith}
+use Rattle.std.proofs.Common.{◌∙◌, arith}
 use Rattle.arti_time.proofs.RangeLemmas.{is_date_is}
 use Rattle.arti_time.proofs.civil.calendar_date.Goals as goal
 

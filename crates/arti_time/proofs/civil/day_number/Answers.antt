@@ -1,4 +1,4 @@
-use Rattle.std.proofs.Common.{◌≡◌, ◌∙◌, arith, rules, to_z, of_z, w32}
+use Rattle.std.proofs.Common.{◌≡◌, rules, to_z, of_z, w32}
 use Rattle.arti_time.specs.Civil.{day_number}
 use Rattle.arti_time.proofs.RangeLemmas.{day_number_range}
 use Rattle.arti_time.proofs.civil.day_number.Goals as goal

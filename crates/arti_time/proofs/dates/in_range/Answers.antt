@@ -1,4 +1,4 @@
-use Rattle.std.proofs.Common.{◌≡◌, ◌∙◌, ap, arith, to_z-of_z, FitsSigned, w64}
+use Rattle.std.proofs.Common.{to_z-of_z, FitsSigned, w64}
 use Rattle.arti_time.proofs.RangeLemmas.{moment_at_is}
 use Rattle.arti_time.proofs.dates.in_range.Goals as goal
 

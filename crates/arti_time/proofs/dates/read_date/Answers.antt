@@ -1,7 +1,4 @@
-use Rattle.std.proofs.Common.{◌≡◌, ◌∙◌, ap, sym, arith, rules, Option, Some, None, Ok, Err, ℤ, ℕ, List, Result, IfOk, OnErr}
-use Rattle.std.specs.Option.{ok_or}
-use Rattle.arti_time.specs.declared.dates.NotADate.{NotADate}
-use Rattle.arti_time.specs.Dates.{ReadsDate}
+use Rattle.std.proofs.Common.{◌∙◌, ap}
 use Rattle.arti_time.specs.DateReader.{date_of}
 use Rattle.arti_time.proofs.DateLemmas.{answer_reads, answer_refuses}
 use Rattle.arti_time.proofs.dates.read_date.Goals as goal

@@ -1,7 +1,4 @@
-use Rattle.std.proofs.Common.{◌≡◌, ◌∙◌, ap, sym, arith, rules, Option, Some, None, Ok, Err, ℤ, ℕ, List, Result, IfOk, OnErr}
-use Rattle.std.specs.Option.{ok_or}
-use Rattle.arti_time.specs.declared.spans.NotASpan.{NotASpan}
-use Rattle.arti_time.specs.Spans.{ReadsSpan}
+use Rattle.std.proofs.Common.{◌∙◌, ap}
 use Rattle.arti_time.specs.Spans.{span_of}
 use Rattle.arti_time.proofs.SpanLemmas.{answer_reads, answer_refuses}
 use Rattle.arti_time.proofs.spans.read_span.Goals as goal
