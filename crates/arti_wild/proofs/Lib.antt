@@ -1,2 +1,3 @@
 pub mod CharLemmas
 pub mod FitsLemmas
+pub mod SegmentLemmas

@@ -1,3 +1,4 @@
 pub mod Fits
 pub mod Wild
 pub mod Run
+pub mod Ant

@@ -3,5 +3,7 @@
 
 mod chars;
 mod matching;
+mod segments;
 
 pub use matching::wild;
+pub use segments::ant;
