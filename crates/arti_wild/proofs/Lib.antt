@@ -1,3 +1,4 @@
 pub mod CharLemmas
 pub mod FitsLemmas
 pub mod SegmentLemmas
+pub mod PartLemmas
