@@ -1,5 +1,5 @@
 -- Why what stands between two stars may be put where it first fits.
-use Rattle.std.proofs.Common.{◌≡◌, ◌⊎◌, inl, inr, ⊎_elim, ℕ, suc, ◌+◌, ◌<◌, ◌≤◌, Bool, true, false, cond, not, ◌&&◌, ◌||◌, List, [], ◌∷◌, ◌++◌, length, refl, sym, ap, ◌∙◌, subst, arith}
+use Rattle.std.proofs.Common.{◌≡◌, ◌⊎◌, inl, inr, ⊎_elim, ◌≤◌, Bool, true, false, not, ◌&&◌, ◌||◌, List, [], ◌∷◌, ◌++◌, length, refl, sym, ap, ◌∙◌, subst, arith}
 use Rattle.std.proofs.lemmas.Bool.{false≢true}
 use Rattle.arti_wild.specs.Fits.{any_rest, is_nil, first_and_rest, fits}
 use Rattle.arti_wild.specs.Run.{takes, run_of, IsStuck, landed}
@@ -58,6 +58,20 @@ unfolding IsRest
 rest_rest zs ys [] h k = subst (λ l. IsRest zs l) k h
 rest_rest zs ys (x ∷ xs) h (inl e) = subst (λ l. IsRest zs l) e h
 rest_rest zs ys (x ∷ xs) h (inr k) = inr (rest_rest zs ys xs h k)
+
+behind : {X : Type 0} (front ys : List X) → IsRest ys (front ++ ys)
+unfolding IsRest
+behind [] ys = rest_whole ys
+behind (x ∷ front) ys = inr (behind front ys)
+
+pub rest_front : {X : Type 0} (ys xs : List X) → IsRest ys xs → (front : List X) × (front ++ ys ≡ xs)
+unfolding IsRest
+rest_front ys [] h = ([], h)
+rest_front ys (x ∷ xs) (inl e) = ([], e)
+rest_front ys (x ∷ xs) (inr h) = let more = rest_front ys xs h in (x ∷ more.0, ap (λ l. x ∷ l) more.1)
+
+pub front_rest : {X : Type 0} (front ys xs : List X) → front ++ ys ≡ xs → IsRest ys xs
+front_rest front ys xs e = subst (λ l. IsRest ys l) e (behind front ys)
 
 pub any_rest_of : {X : Type 0} (test : List X → Bool) (ys xs : List X) → IsRest ys xs → test ys ≡ true → any_rest test xs ≡ true
 unfolding any_rest IsRest

@@ -1,8 +1,7 @@
 -- Parts, read one by one.
-use Rattle.std.proofs.Common.{◌≡◌, ℕ, zero, suc, ◌+◌, ◌-◌, ◌<◌, ◌≤◌, Bool, true, false, cond, ◌&&◌, List, [], ◌∷◌, ◌++◌, length, get_or, drop, set, Option, Some, None, refl, sym, ap, ◌∙◌, subst, arith, append_assoc, drop-cons, append-nil}
+use Rattle.std.proofs.Common.{◌≡◌, ℕ, zero, suc, ◌-◌, ◌<◌, ◌≤◌, Bool, true, false, ◌&&◌, List, [], ◌∷◌, ◌++◌, length, get_or, drop, set, Option, Some, None, refl, ap, ◌∙◌, arith, drop-cons, append-nil}
 use Rattle.std.specs.Prelude.{option_map, option_and_then, ◌==◌, slice_set}
 use Rattle.std.specs.Str.{chars}
-use Rattle.std.proofs.lemmas.Bool.{false≢true}
 use Rattle.arti_wild.specs.declared.part.Part.{Part}
 use Rattle.arti_wild.specs.declared.part.Part.TheVariants.{Char, LastSlash}
 use Rattle.arti_wild.specs.Parts.{part_of, ended, parts_of, is_parenthesis, is_slash, mark, with_last_slash, marked_for, pattern_of}

@@ -1,5 +1,5 @@
 -- A list of pattern items against a list: an item that stands for many elements, or for one.
-use Rattle.std.specs.Prelude.{ℕ, Bool, true, false, ◌||◌, ◌&&◌, if◌then◌else◌, List, [], ◌∷◌}
+use Rattle.std.specs.Prelude.{Bool, true, false, ◌||◌, ◌&&◌, if◌then◌else◌, List, [], ◌∷◌}
 
 -- the list, or what follows some front of it, passes the test
 unfoldable pub any_rest : {X : Type 0} → (List X → Bool) → List X → Bool

@@ -1,6 +1,6 @@
 -- The texts of patterns with placeholders: `(` and `)` mark a placeholder, `\(` and `\)` are those characters, and the rest
 -- is as in wild patterns. Placeholders do not nest.
-use Rattle.std.specs.Prelude.{ℕ, Bool, true, false, ◌==◌, ◌&&◌, ◌||◌, if◌then◌else◌, List, [], ◌∷◌, Option, Some, None, option_map, option_and_then}
+use Rattle.std.specs.Prelude.{ℕ, Bool, true, false, ◌==◌, ◌&&◌, ◌||◌, if◌then◌else◌, List, [], ◌∷◌, Option, Some, None, option_and_then}
 use Rattle.std.specs.Str.{chars}
 use Rattle.arti_wild.specs.declared.part.Part.{Part}
 use Rattle.arti_wild.specs.declared.part.Part.TheVariants.{Char, LastSlash, Any, Star, Open, Close}

@@ -1,11 +1,10 @@
 -- How a pattern with placeholders splits a text, over characters, and what its placeholders stand for then.
-use Rattle.std.specs.Prelude.{◌≡◌, ◌⊎◌, ℕ, zero, suc, ◌+◌, ◌<◌, ◌≤◌, Bool, true, false, not, ◌==◌, ◌&&◌, ◌||◌, List, [], ◌∷◌, ◌++◌, length, take, drop, map, if◌then◌else◌, Option, Some, None, option_map, encode_utf8_all}
+use Rattle.std.specs.Prelude.{◌≡◌, ◌⊎◌, ℕ, suc, ◌+◌, ◌<◌, ◌≤◌, Bool, true, false, not, ◌==◌, ◌&&◌, List, [], ◌∷◌, length, take, drop, map, if◌then◌else◌, Option, Some, None, option_map, encode_utf8_all}
 use Rattle.std.specs.List.{list_any}
 use Rattle.std.specs.Str.{chars}
 use Rattle.arti_wild.specs.declared.part.Part.{Part}
 use Rattle.arti_wild.specs.declared.part.Part.TheVariants.{Char, LastSlash, Any, Star, Open, Close}
-use Rattle.arti_wild.specs.declared.captures.Span.{Span}
-use Rattle.arti_wild.specs.Fits.{is_nil}
+use Rattle.arti_wild.specs.declared.capturing.Span.{Span}
 
 -- a part of one character stands for the first one of the text
 abbrev pub takes_first : Part → List ℕ → Bool
@@ -18,7 +17,7 @@ takes_first Open (d ∷ rest) = false
 takes_first Close (d ∷ rest) = false
 
 -- the text is split by the parts, and these are the lengths of what the stars stand for, from the left
-pub Splits : List Part → List ℕ → List ℕ → Type 0
+unfoldable pub Splits : List Part → List ℕ → List ℕ → Type 0
 Splits [] text lengths = (text ≡ []) × (lengths ≡ [])
 Splits (Star ∷ parts) text lengths = (n : ℕ) × (more : List ℕ) × (lengths ≡ n ∷ more) × (n ≤ length text) × Splits parts (drop n text) more
 Splits (Open ∷ parts) text lengths = Splits parts text lengths
@@ -28,7 +27,7 @@ Splits (LastSlash ∷ parts) text lengths = (takes_first LastSlash text ≡ true
 Splits (Any ∷ parts) text lengths = (takes_first Any text ≡ true) × Splits parts (drop 1 text) lengths
 
 -- no greater, in list order
-pub IsAtMost : List ℕ → List ℕ → Type 0
+unfoldable pub IsAtMost : List ℕ → List ℕ → Type 0
 IsAtMost [] ns = Unit {0}
 IsAtMost (m ∷ ms) [] = ⊥
 IsAtMost (m ∷ ms) (n ∷ ns) = (m < n) ⊎ ((m ≡ n) × IsAtMost ms ns)

@@ -1,5 +1,5 @@
 use Rattle.std.specs.Str.{chars}
-use Rattle.std.proofs.Common.{◌≡◌, true, false, rules, sym, ◌∙◌, eq-eqb}
+use Rattle.std.proofs.Common.{◌≡◌, rules, sym, ◌∙◌, eq-eqb}
 use Rattle.std.proofs.lemmas.Bool.{ne_eqb}
 use Rattle.arti_wild.specs.Fits.{is_nil}
 use Rattle.arti_wild.specs.Wild.{is_star, stands_for}

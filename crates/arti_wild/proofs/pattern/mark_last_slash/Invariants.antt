@@ -1,4 +1,4 @@
-use Rattle.std.proofs.Common.{◌≡◌, ◌≤◌, ℕ, length, drop, None}
+use Rattle.std.proofs.Common.{◌≡◌, ◌≤◌, length, drop, None}
 use Rattle.arti_wild.specs.Parts.{with_last_slash}
 use Rattle.arti_wild.proofs.pattern.mark_last_slash.Given as goal
 

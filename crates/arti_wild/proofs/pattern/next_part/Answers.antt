@@ -1,4 +1,4 @@
-use Rattle.std.proofs.Common.{sym, ◌∙◌}
+use Rattle.std.proofs.Common.{sym}
 use Rattle.std.specs.Str.{chars}
 use Rattle.arti_wild.proofs.PartLemmas.{escape, no_part, some_part}
 use Rattle.arti_wild.proofs.pattern.next_part.Goals as goal

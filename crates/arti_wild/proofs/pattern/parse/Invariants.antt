@@ -1,4 +1,4 @@
-use Rattle.std.proofs.Common.{◌≡◌, ℕ, length, false, ◌++◌}
+use Rattle.std.proofs.Common.{◌≡◌, length, false, ◌++◌}
 use Rattle.std.specs.Prelude.{option_map}
 use denote.Shadow.{shadow}
 use denote.Text.{Utf8}

@@ -1,4 +1,4 @@
-use Rattle.std.proofs.Common.{sym, ◌∙◌}
+use Rattle.std.proofs.Common.{◌∙◌}
 use Rattle.arti_wild.proofs.PartLemmas.{pattern_none, pattern_some}
 use Rattle.arti_wild.proofs.pattern.read_pattern.Goals as goal
 

@@ -1,6 +1,5 @@
-use Rattle.std.proofs.Common.{lit<, sym, ◌∙◌, rules, ℕ, List}
-use Rattle.std.specs.Prelude.{Bool}
-use Rattle.arti_wild.specs.Ant.{pattern_fits, trimmed, ant_path}
+use Rattle.std.proofs.Common.{lit<, sym, ◌∙◌, rules}
+use Rattle.arti_wild.specs.Ant.{pattern_fits, trimmed}
 use Rattle.arti_wild.proofs.SegmentLemmas.{first_pattern, last_pattern, is_first, not_first}
 use Rattle.arti_wild.proofs.segments.ant.Goals as goal
 

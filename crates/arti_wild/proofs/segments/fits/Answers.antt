@@ -2,7 +2,7 @@ use Rattle.std.proofs.Common.{sym, ◌∙◌, true}
 use Rattle.arti_wild.specs.Wild.{wild_text}
 use Rattle.arti_wild.specs.Ant.{is_double_star, segments_left, pattern_left}
 use Rattle.arti_wild.proofs.FitsLemmas.{run_stuck, run_fits}
-use Rattle.arti_wild.proofs.SegmentLemmas.{nonempty, empty}
+use Rattle.arti_wild.proofs.SegmentLemmas.{nonempty}
 use Rattle.arti_wild.proofs.segments.fits.Goals as goal
 
 pub after_run-requires : goal.after_run-requires

@@ -1,5 +1,4 @@
-use Rattle.std.proofs.Common.{ap, sym, ◌∙◌, List, ℕ, ◌∷◌}
-use Rattle.arti_wild.specs.Ant.{segments_left, pattern_left}
+use Rattle.arti_wild.specs.Ant.{segments_left}
 use Rattle.arti_wild.proofs.SegmentLemmas.{opened}
 use Rattle.arti_wild.proofs.segments.next_pattern.Goals as goal
 
