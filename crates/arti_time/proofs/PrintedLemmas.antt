@@ -18,7 +18,7 @@ pub join_four : (out a b c d after_a after_b after_c after_d : List ℕ) → aft
 join_four out a b c d after_a after_b after_c after_d ea eb ec ed =
     join_two out (a ++ b ++ c) d after_c after_d (join_two out (a ++ b) c after_b after_c (join_two out a b after_a after_b ea eb) ec) ed
 
-calendar : (c : Civil) → IsCivil c → IsCivilDate (pos c.year) c.month c.day
+pub calendar : (c : Civil) → IsCivil c → IsCivilDate (pos c.year) c.month c.day
 calendar c h = ((omega (arith, signed_arith, h.year), omega (arith, signed_arith, h.year)), h.month, h.day)
 
 -- of two dates with one day number neither is later

@@ -1,6 +1,6 @@
 -- Moments as dates and times of day in UTC, by the proleptic Gregorian calendar.
-use Rattle.std.specs.Prelude.{ℕ, ◌+◌, ◌*◌, ◌<◌, ℤ, pos, negsuc, ◌+ℤ◌, ◌*ℤ◌, ◌≤ℤ◌}
-use Rattle.std.specs.Int.{IsInRange}
+use Rattle.std.specs.Prelude.{ℕ, ◌+◌, ◌*◌, ◌<◌, Bool, ◌&&◌, ℤ, pos, negsuc, ◌+ℤ◌, ◌*ℤ◌, ◌≤ℤ◌}
+use Rattle.std.specs.Int.{is_in_range, IsInRange}
 use Rattle.jiff_core.specs.Calendar.{days_in_month, days_from_civil}
 use Rattle.arti_time.specs.declared.civil.Civil.{Civil}
 
@@ -17,6 +17,11 @@ pub record IsCivil (c : Civil) : Type 0 where
   pub minute : c.minute < 60
   pub second : c.second < 60
   pub millisecond : c.millisecond < 1000
+
+-- the calendar has the date
+abbrev pub is_date : (year month day : ℕ) → Bool
+is_date year month day =
+    is_in_range 1 9999 year && (is_in_range 1 12 month && is_in_range 1 (days_in_month (pos year) month) day)
 
 -- the milliseconds since midnight
 abbrev pub time_of_day : Civil → ℕ
