@@ -1,5 +1,5 @@
 // Streams of requests, each read whole and in small reads. What is wanted was computed by another program.
-ghost use Rattle.std.specs.Prelude.{◌≡◌, ◌≤◌, IfOk, IsSome, All};
+ghost use Rattle.std.specs.Prelude.{◌≡◌, ◌≤◌, true, false, IfOk, IsSome, All};
 ghost use Rattle.arti_wire.specs.Framing.{IsInBody};
 
 use crate::{NextHead, Phase, Piece, Request, Wire, WireFault, response_head};
@@ -130,39 +130,63 @@ fn show(alloc: Global, request: &Request, body: &str) -> Result<String, Fail> {
     Ok(format!(in alloc; "{method} {target} {fields} {first} {last} {body}; ")?)
 }
 
-// How a stream ends, unless a head comes.
-fn ending_of(next: &Result<NextHead, WireFault>) -> Option<&'static str> {
-    match next {
-        Ok(NextHead::Head(_)) => None,
-        Ok(NextHead::End) => Some("End"),
-        Ok(NextHead::Cut) => Some("Cut"),
-        Ok(NextHead::Bad(why)) => Some(name_of(*why)),
-        Err(WireFault::Source) => Some("Source"),
-        Err(WireFault::Memory) => Some("Memory"),
+// Reads the body of a request, and says whether another may follow.
+fn read_request(
+    alloc: Global,
+    request: &Request,
+    wire: &mut Wire,
+    source: &mut MemorySource,
+    shown: &mut String,
+) -> Result<bool, Fail>
+    requires { IsInBody wire.old.phase }
+    ensures { IfOk result (λ more. more ≡ true → wire.new.phase ≡ Phase.Between) }
+{
+    let Some(body) = read_body(alloc, wire, source)? else {
+        shown.push_str("Cut")?;
+        return Ok(false);
+    };
+    shown.push_str(show(alloc, request, body.as_str())?.as_str())?;
+    if request.last {
+        shown.push_str("End")?;
+        return Ok(false);
+    }
+    Ok(true)
+}
+
+// Shows how a stream ended.
+fn ended(shown: &mut String, ending: &str) -> Result<bool, Fail>
+    ensures { IfOk result (λ more. more ≡ false) }
+{
+    shown.push_str(ending)?;
+    Ok(false)
+}
+
+// Reads what comes next, and says whether more may follow.
+fn read_next(
+    alloc: Global,
+    wire: &mut Wire,
+    source: &mut MemorySource,
+    shown: &mut String,
+) -> Result<bool, Fail>
+    requires { wire.old.phase ≡ Phase.Between }
+    ensures { IfOk result (λ more. more ≡ true → wire.new.phase ≡ Phase.Between) }
+{
+    match wire.next_head(alloc, source, &Limits::standard()) {
+        Ok(NextHead::Head(request)) => read_request(alloc, &request, wire, source, shown),
+        Ok(NextHead::End) => ended(shown, "End"),
+        Ok(NextHead::Cut) => ended(shown, "Cut"),
+        Ok(NextHead::Bad(why)) => ended(shown, name_of(why)),
+        Err(WireFault::Source) => ended(shown, "Source"),
+        Err(WireFault::Memory) => ended(shown, "Memory"),
     }
 }
 
 // All requests of a source, and its ending.
 fn read_all(alloc: Global, source: &mut MemorySource) -> Result<String, Fail> {
-    let limits = Limits::standard();
     let mut shown = String::new(alloc);
     let mut wire = Wire::new(alloc)?;
     'heads: for _ in 0..u64::MAX {
-        let next = wire.next_head(alloc, source, &limits);
-        if let Some(ending) = ending_of(&next) {
-            shown.push_str(ending)?;
-            return Ok(shown);
-        }
-        let Ok(NextHead::Head(request)) = next else {
-            return Ok(shown);
-        };
-        let Some(body) = read_body(alloc, &mut wire, source)? else {
-            shown.push_str("Cut")?;
-            return Ok(shown);
-        };
-        shown.push_str(show(alloc, &request, body.as_str())?.as_str())?;
-        if request.last {
-            shown.push_str("End")?;
+        if !read_next(alloc, &mut wire, source, &mut shown)? {
             return Ok(shown);
         }
     }
