@@ -5,3 +5,4 @@ pub mod PartLemmas
 pub mod RowLemmas
 pub mod WalkLemmas
 pub mod SplitLemmas
+pub mod AntLemmas

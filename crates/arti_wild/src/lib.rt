@@ -10,7 +10,7 @@ mod pattern;
 mod segments;
 
 pub use capturing::{Span, captures};
-pub use laws::{greatest_of_all_splits, wild_by_first_character};
+pub use laws::{ant_by_first_segment, greatest_of_all_splits, wild_by_first_character};
 pub use matching::wild;
 pub use part::Part;
 pub use pattern::{Pattern, PatternFault, read_pattern};
