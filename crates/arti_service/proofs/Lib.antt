@@ -1,3 +1,2 @@
 mod Deploys
 mod Pieces
-mod Talks

@@ -11,6 +11,7 @@ use arti_wire::{Field, Request};
 use std::alloc::{AllocError, Global};
 
 const LOCAL: &str = "generic-local";
+
 const LOCAL_FRONT: &str = "/generic-local/";
 
 /// Whether the request has that method.

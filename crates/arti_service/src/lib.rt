@@ -4,11 +4,10 @@
 mod answering;
 mod ask;
 mod conversation;
-
 mod replies;
 mod store;
 mod stored;
 
 pub use answering::{Stop, answer};
-pub use conversation::{Ending, converse};
+pub use conversation::{Ending, answer_next, tell_bad};
 pub use store::Store;

@@ -76,7 +76,14 @@ fn deploy_rows(
     ensures reply { IfOk result (λ r. r.1.items ≡ json_reply 201 (deployed_body key moment user.now (length content.items) (digests_of content.items))) }
 {
     let digests = digests(&content);
-    let body = replies::deployed(alloc, &key, moment, user.as_str(), content.len() as u64, &digests)?;
+    let body = replies::deployed(
+        alloc,
+        &key,
+        moment,
+        user.as_str(),
+        content.len() as u64,
+        &digests,
+    )?;
     let reply = replies::with_json(alloc, 201, &body)?;
     let mut rows = new_folders(alloc, moment, user, missing)?;
     rows.push(new_file(alloc, moment, user, key, content, digests)?)?;
