@@ -1,2 +1,3 @@
 mod Deploys
 mod Pieces
+mod Talks

@@ -1,13 +1,45 @@
--- What one request of a stream does.
-use Rattle.std.specs.Prelude.{◌≡◌, ℕ, ◌<◌, ℤ, List, ◌++◌, length, drop}
+-- How a conversation on one stream ends, and what was told in it.
+use Rattle.std.specs.Prelude.{◌≡◌, ℕ, ◌-◌, ◌<◌, ℤ, List, ◌++◌, length, drop}
 use Rattle.arti_rows.specs.declared.limits.Limits.{Limits}
-use Rattle.arti_model.specs.Requests.{Request}
+use Rattle.arti_model.specs.Requests as model
+use Rattle.arti_model.specs.Requests.{Whole, RequestBytes}
 use Rattle.arti_model.specs.Store.{Repository}
+use Rattle.arti_model.specs.Run.{first_of, AnswersAll, repository_after}
 use Rattle.arti_model.specs.Step.{step}
-use Rattle.arti_model.specs.Run.{first_of}
+use Rattle.arti_service.specs.declared.conversation.Ending.{Ending}
+use Rattle.arti_service.specs.declared.conversation.Ending.TheVariants.{End, Cut, Bad, TooMany, Disk, Tell, Source, Memory}
+
+-- the requests that the bytes are, the replies to them and the repository after them
+pub record IsAnswered (limits : Limits) (most : ℕ) (moments : List ℤ) (r : Repository) (input : List ℕ) (ending : model.Ending) (bytes : List ℕ) (after : Repository) : Type 0 where
+  pub requests : List Whole
+  pub reads : RequestBytes limits.content most input requests ending
+  pub answers : AnswersAll limits moments r requests ending bytes
+  pub leaves : after ≡ repository_after limits moments r requests
+
+-- a fact of the ending of the stream, where no fault ended it
+abbrev pub AtStreamEnd : Ending → (model.Ending → Type 0) → Type 0
+AtStreamEnd End P = P model.End
+AtStreamEnd Cut P = P model.Cut
+AtStreamEnd (Bad why) P = P (model.Bad why)
+AtStreamEnd TooMany P = P model.TooMany
+AtStreamEnd Disk P = Unit {0}
+AtStreamEnd Tell P = Unit {0}
+AtStreamEnd Source P = Unit {0}
+AtStreamEnd Memory P = Unit {0}
+
+-- the stream was answered to its end
+abbrev pub Answers : Limits → ℕ → List ℤ → Repository → List ℕ → List ℕ → List ℕ → Repository → model.Ending → Type 0
+Answers limits most moments r input told told' after ending =
+    (bytes : List ℕ) × IsAnswered limits most moments r input ending bytes after × (told' ≡ told ++ bytes)
+
+-- one request was read and answered, and the stream goes on
+pub record TakesTurn (limits : Limits) (most : ℕ) (moments moments' : List ℤ) (r r' : Repository) (input input' : List ℕ) (told told' : List ℕ) : Type 0 where
+  pub goes_on : (ending : model.Ending) (bytes : List ℕ) (after : Repository) → IsAnswered limits (most - 1) moments' r' input' ending bytes after
+      → (all : List ℕ) × IsAnswered limits most moments r input ending all after × (told' ++ bytes ≡ told ++ all)
+  pub some : 0 < most
 
 -- the request of a head was read whole and answered: n bytes of the input are its body
-pub record AnswersOne (limits : Limits) (moments moments' : List ℤ) (r r' : Repository) (head : Request) (n : ℕ) (input input' : List ℕ) (told told' : List ℕ) : Type 0 where
+pub record AnswersOne (limits : Limits) (moments moments' : List ℤ) (r r' : Repository) (head : model.Request) (n : ℕ) (input input' : List ℕ) (told told' : List ℕ) : Type 0 where
   pub body : List ℕ
   pub long : length body ≡ n
   pub input_is : input ≡ body ++ input'

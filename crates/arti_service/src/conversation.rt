@@ -1,20 +1,22 @@
 // A request of a stream is read whole and answered.
-ghost use Rattle.std.specs.Prelude.{◌≡◌, ◌≢◌, ◌++◌, ◌<◌, length, IfOk, IfErr, OnOk, IsErrOf, Err};
+ghost use Rattle.std.specs.Prelude.{◌≡◌, ◌≢◌, ◌⊎◌, ◌++◌, ◌<◌, ℕ, List, length, IfOk, IfErr, OnOk, IsErrOf, Err};
 ghost use Rattle.arti_ground.specs.State.{LeavesDisk, Rose};
 ghost use Rattle.arti_wire.specs.Framing.{IsInBody, body_left, HasSourceCause};
 ghost use Rattle.arti_wire.specs.declared.wire.Phase.TheVariants.{Between};
 ghost use Rattle.arti_model.specs.Run.{error_reply};
 ghost use Rattle.arti_service.specs.Bodies.{IsBodyOf, LeavesPhase};
-ghost use Rattle.arti_service.specs.Talk.{AnswersOne, CutsShort};
+ghost use Rattle.arti_model.specs.Requests.{Begins, Head};
+ghost use Rattle.arti_service.specs.Talk.{AtStreamEnd, Answers, TakesTurn, AnswersOne, CutsShort};
 ghost use Rattle.arti_service.specs.Endings.{IsFault, IsCutOrFault};
 
 use crate::answering::{Stop, answer};
 use crate::replies;
 use crate::store::Store;
-use arti_ground::{Clock, Ground, Source};
+use arti_ground::{Clock, Ground, Source, Steps, Upstream};
 use arti_rows::Limits;
-use arti_wire::{Piece, Request, Why, Wire, WireFault};
+use arti_wire::{NextHead, Piece, Request, Why, Wire, WireFault};
 use std::alloc::{AllocError, Global};
+use std::sync::ledger::Ledger;
 
 /// How a conversation ended.
 #[derive(Clone, Copy, Debug, PartialEq, Eq)]
@@ -70,8 +72,8 @@ fn error_text(alloc: Global, why: Why) -> Result<Vec<u8>, AllocError>
     }
 }
 
-/// Tells that the bytes are no request.
-pub fn tell_bad<G: Ground>(alloc: Global, ground: &mut G, line: u32, why: Why) -> Result<(), Stop>
+// Tells that the bytes are no request.
+fn tell_bad<G: Ground>(alloc: Global, ground: &mut G, line: u32, why: Why) -> Result<(), Stop>
     ensures told { G.tells → OnOk result ((G.state ground.new).told line ≡ (G.state ground.old).told line ++ error_reply why) }
     ensures tell_fault { IsErrOf result Stop.Tell → Rose (G.tell_faults ground.old line) (G.tell_faults ground.new line) }
     ensures quiet { result ≢ Err Stop.Tell → G.tell_faults ground.new ≡ G.tell_faults ground.old }
@@ -99,8 +101,8 @@ fn ending_of(stop: Stop) -> Ending
     }
 }
 
-/// Reads the body of a request, and answers it.
-pub fn answer_next<G: Ground, S: Source, C: Clock>(
+// Reads the body of a request, and answers it.
+fn answer_next<G: Ground, S: Source, C: Clock>(
     alloc: Global,
     store: &mut Store,
     ground: &mut G,
@@ -136,5 +138,161 @@ pub fn answer_next<G: Ground, S: Source, C: Clock>(
     match answer(alloc, store, ground, line, limits, request, body, moment) {
         Ok(()) => Ok(()),
         Err(stop) => Err(ending_of(stop)),
+    }
+}
+
+// The request whose head has come is answered, and the stream goes on or ends.
+fn turn_on<G: Ground, S: Source, C: Clock>(
+    alloc: Global,
+    store: &mut Store,
+    ground: &mut G,
+    source: &mut S,
+    clock: &mut C,
+    line: u32,
+    limits: &Limits,
+    wire: &mut Wire,
+    buf: &mut [u8],
+    most: u32,
+    request: &Request,
+) -> Result<(), Ending>
+    requires body { IsInBody wire.old.phase }
+    requires room { 0 < length buf.old }
+    requires some { 0 < most }
+    ensures turns { G.tells → S.tells → C.tells → (input : List ℕ) → Begins limits.now.content input (Head request.now (body_left wire.old.phase) (wire.old.ahead ++ S.left source.old))
+        → OnOk result (TakesTurn limits.now most (C.moments clock.old) (C.moments clock.new) store.old store.new input (wire.new.ahead ++ S.left source.new) ((G.state ground.old).told line) ((G.state ground.new).told line)) }
+    ensures ends { G.tells → S.tells → C.tells → (input : List ℕ) → Begins limits.now.content input (Head request.now (body_left wire.old.phase) (wire.old.ahead ++ S.left source.old))
+        → IfErr result (λ ending. AtStreamEnd ending (Answers limits.now most (C.moments clock.old) store.old input ((G.state ground.old).told line) ((G.state ground.new).told line) store.new)) }
+    ensures phase { OnOk result (wire.new.phase ≡ Between) }
+    ensures tell_fault { IsErrOf result Ending.Tell → Rose (G.tell_faults ground.old line) (G.tell_faults ground.new line) }
+    ensures quiet { result ≢ Err Ending.Tell → G.tell_faults ground.new ≡ G.tell_faults ground.old }
+    ensures source_fault { IsErrOf result Ending.Source → Rose (S.faults source.old) (S.faults source.new) }
+    ensures source_quiet { result ≢ Err Ending.Source → S.faults source.new ≡ S.faults source.old }
+    ensures no_disk { result ≢ Err Ending.Disk }
+    ensures disk_faults { G.disk_faults ground.new ≡ G.disk_faults ground.old }
+    ensures disk { G.tells → LeavesDisk (G.state ground.old) (G.state ground.new) }
+{
+    let last = request.last;
+    match answer_next(
+        alloc, store, ground, source, clock, line, limits, wire, buf, request,
+    ) {
+        Err(ending) => Err(ending),
+        Ok(()) => {
+            if last {
+                return Err(Ending::End);
+            }
+            Ok(())
+        }
+    }
+}
+
+// Tells that the bytes are no request, and ends.
+fn end_bad<G: Ground>(alloc: Global, ground: &mut G, line: u32, why: Why) -> Ending
+    ensures bad { result ≡ Ending.Bad why ⊎ IsFault result }
+    ensures told { G.tells → result ≡ Ending.Bad why → (G.state ground.new).told line ≡ (G.state ground.old).told line ++ error_reply why }
+    ensures tell_fault { result ≡ Ending.Tell → Rose (G.tell_faults ground.old line) (G.tell_faults ground.new line) }
+    ensures quiet { result ≢ Ending.Tell → G.tell_faults ground.new ≡ G.tell_faults ground.old }
+    ensures source { result ≢ Ending.Source }
+    ensures disk_faults { G.disk_faults ground.new ≡ G.disk_faults ground.old }
+    ensures disk { G.tells → LeavesDisk (G.state ground.old) (G.state ground.new) }
+{
+    match tell_bad(alloc, ground, line, why) {
+        Ok(()) => Ending::Bad(why),
+        Err(stop) => ending_of(stop),
+    }
+}
+
+// One turn: a request is read and answered, or the conversation ends.
+fn turn<G: Ground, S: Source, C: Clock>(
+    alloc: Global,
+    store: &mut Store,
+    ground: &mut G,
+    source: &mut S,
+    clock: &mut C,
+    line: u32,
+    limits: &Limits,
+    wire: &mut Wire,
+    buf: &mut [u8],
+    most: u32,
+) -> Result<(), Ending>
+    requires between { wire.old.phase ≡ Between }
+    requires room { 0 < length buf.old }
+    ensures turns { G.tells → S.tells → C.tells → OnOk result (TakesTurn limits.now most (C.moments clock.old) (C.moments clock.new) store.old store.new
+        (wire.old.ahead ++ S.left source.old) (wire.new.ahead ++ S.left source.new) ((G.state ground.old).told line) ((G.state ground.new).told line)) }
+    ensures ends { G.tells → S.tells → C.tells → IfErr result (λ ending. AtStreamEnd ending (Answers limits.now most (C.moments clock.old) store.old (wire.old.ahead ++ S.left source.old)
+        ((G.state ground.old).told line) ((G.state ground.new).told line) store.new)) }
+    ensures some { OnOk result (0 < most) }
+    ensures phase { OnOk result (wire.new.phase ≡ Between) }
+    ensures tell_fault { IsErrOf result Ending.Tell → Rose (G.tell_faults ground.old line) (G.tell_faults ground.new line) }
+    ensures quiet { result ≢ Err Ending.Tell → G.tell_faults ground.new ≡ G.tell_faults ground.old }
+    ensures source_fault { IsErrOf result Ending.Source → Rose (S.faults source.old) (S.faults source.new) }
+    ensures source_quiet { result ≢ Err Ending.Source → S.faults source.new ≡ S.faults source.old }
+    ensures no_disk { result ≢ Err Ending.Disk }
+    ensures disk_faults { G.disk_faults ground.new ≡ G.disk_faults ground.old }
+    ensures disk { G.tells → LeavesDisk (G.state ground.old) (G.state ground.new) }
+{
+    match wire.next_head(alloc, source, limits) {
+        Err(WireFault::Source) => Err(Ending::Source),
+        Err(WireFault::Memory) => Err(Ending::Memory),
+        Ok(NextHead::End) => Err(Ending::End),
+        Ok(NextHead::Cut) => {
+            if most == 0 {
+                return Err(Ending::TooMany);
+            }
+            Err(Ending::Cut)
+        }
+        Ok(NextHead::Bad(why)) => {
+            if most == 0 {
+                return Err(Ending::TooMany);
+            }
+            Err(end_bad(alloc, ground, line, why))
+        }
+        Ok(NextHead::Head(request)) => {
+            if most == 0 {
+                return Err(Ending::TooMany);
+            }
+            turn_on(
+                alloc, store, ground, source, clock, line, limits, wire, buf, most, &request,
+            )
+        }
+    }
+}
+
+/// Answers the requests of one stream, one after the other, on a line.
+pub fn converse<G: Ground, S: Source, U: Upstream, C: Clock, L: Ledger>(
+    alloc: Global,
+    store: &mut Store,
+    ground: &mut G,
+    source: &mut S,
+    _upstream: &mut U,
+    clock: &mut C,
+    line: u32,
+    limits: &Limits,
+    _steps: &mut Steps<L>,
+) -> Ending
+    ensures answers { G.tells → S.tells → C.tells → AtStreamEnd result (Answers limits.now limits.now.requests (C.moments clock.old) store.old (S.left source.old)
+        ((G.state ground.old).told line) ((G.state ground.new).told line) store.new) }
+    ensures tell_fault { result ≡ Ending.Tell → Rose (G.tell_faults ground.old line) (G.tell_faults ground.new line) }
+    ensures quiet { result ≢ Ending.Tell → G.tell_faults ground.new ≡ G.tell_faults ground.old }
+    ensures source_fault { result ≡ Ending.Source → Rose (S.faults source.old) (S.faults source.new) }
+    ensures source_quiet { result ≢ Ending.Source → S.faults source.new ≡ S.faults source.old }
+    ensures no_disk { result ≢ Ending.Disk }
+    ensures disk_faults { G.disk_faults ground.new ≡ G.disk_faults ground.old }
+    ensures disk { G.tells → LeavesDisk (G.state ground.old) (G.state ground.new) }
+{
+    let Ok(mut wire) = Wire::new(alloc) else {
+        return Ending::Memory;
+    };
+    let Ok(mut buf) = vec![in alloc; 0u8; 65536] else {
+        return Ending::Memory;
+    };
+    let mut most = limits.requests;
+    'requests: loop {
+        let turned = turn(
+            alloc, store, ground, source, clock, line, limits, &mut wire, &mut buf, most,
+        );
+        match turned {
+            Ok(()) => most -= 1,
+            Err(ending) => return ending,
+        }
     }
 }

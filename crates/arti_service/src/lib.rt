@@ -9,5 +9,5 @@ mod store;
 mod stored;
 
 pub use answering::{Stop, answer};
-pub use conversation::{Ending, answer_next, tell_bad};
+pub use conversation::{Ending, converse};
 pub use store::Store;

@@ -1,0 +1,71 @@
+use Rattle.std.proofs.lemmas.List.{length-take}
+use Rattle.std.proofs.Common.{length, drop, length-append, ◌≡◌, ◌-◌, ◌<◌, ◌++◌, ℕ, ℤ, List, [], refl, sym, ap, ◌∙◌, subst, arith, rules}
+use Rattle.std.specs.Prelude.{Err}
+use Rattle.arti_ground.specs.State.{LeavesDisk, Rose}
+use Rattle.arti_service.specs.declared.conversation.Ending.{Ending}
+use Rattle.arti_model.specs.Requests as model
+use Rattle.arti_model.specs.Store.{Repository}
+use Rattle.arti_service.specs.Talk.{IsAnswered, AtStreamEnd, Answers, TakesTurn}
+use Rattle.arti_service.proofs.Talks.{goes_through, starts_so, goes_so, leaves_then}
+use Rattle.arti_service.proofs.conversation.converse.Goals as goal
+
+pub requests-init : goal.requests-init
+requests-init g c = record {
+  phase = c.in-Ok.ensures.phase;
+  room = search rules;
+  talk = λ gt st ct e bytes after a.
+      starts_so c.args.limits.now c.args.limits.now.requests (g.C.Clock.moments c.args.clock.now) c.args.store.now c.in-Ok.wire.ahead (g.S.Source.left c.args.source.now)
+      ((g.G.Ground.state c.args.ground.now).told c.args.line) e bytes after c.in-Ok.ensures.ahead a;
+  tell_faults = refl;
+  disk_faults = refl;
+  source_faults = refl;
+  disk = λ gt. record { files = refl; images = λ image left. left };
+}
+
+pub requests-preserved : goal.requests-preserved
+requests-preserved g c =
+    let before = c.requests.invariant in
+    let turned = c.in-Ok-turned.ensures in
+    let old = c.requests.buf.items in
+    let new = c.turn-turned.new.buf in
+    let size : c.requests.buf.len ≡ length old = search rules in
+    let same : length new ≡ length old = search rules in
+    record {
+      phase = turned.phase;
+      room = omega (arith, length-take c.requests.buf.len (new ++ drop (length new) old), length-append new (drop (length new) old), size, same, before.room);
+      talk = λ gt st ct e bytes after a. goes_so c.args.limits.now c.requests.most (g.C.Clock.moments c.requests.clock) (g.C.Clock.moments c.turn-turned.new.clock) c.requests.store c.turn-turned.new.store
+          (c.requests.wire.ahead ++ g.S.Source.left c.requests.source) (c.turn-turned.new.wire.ahead ++ g.S.Source.left c.turn-turned.new.source)
+          ((g.G.Ground.state c.requests.ground).told c.args.line) ((g.G.Ground.state c.turn-turned.new.ground).told c.args.line)
+          c.args.limits.now.requests (g.C.Clock.moments c.args.clock.now) c.args.store.now (g.S.Source.left c.args.source.now) ((g.G.Ground.state c.args.ground.now).told c.args.line)
+          (turned.turns gt st ct) (before.talk gt st ct) e bytes after a;
+      tell_faults = turned.quiet (λ e. cc) ∙ before.tell_faults;
+      disk_faults = turned.disk_faults ∙ before.disk_faults;
+      source_faults = turned.source_quiet (λ e. cc) ∙ before.source_faults;
+      disk = λ gt. leaves_then (g.G.Ground.state c.args.ground.now) (g.G.Ground.state c.requests.ground) (g.G.Ground.state c.turn-turned.new.ground) (before.disk gt) (turned.disk gt);
+    }
+
+pub returns-in-Err-clause-answers : goal.returns-in-Err-clause-answers
+returns-in-Err-clause-answers g c = λ gt st ct.
+    goes_through c.args.limits.now c.requests.most (g.C.Clock.moments c.requests.clock) c.requests.store (c.requests.wire.ahead ++ g.S.Source.left c.requests.source)
+    ((g.G.Ground.state c.requests.ground).told c.args.line) ((g.G.Ground.state c.turn-turned.new.ground).told c.args.line)
+    c.args.limits.now.requests (g.C.Clock.moments c.args.clock.now) c.args.store.now c.turn-turned.new.store (g.S.Source.left c.args.source.now) ((g.G.Ground.state c.args.ground.now).told c.args.line)
+    c.in-Err.ending (c.requests.invariant.talk gt st ct) (c.in-Err.ensures.ends gt st ct)
+
+pub returns-in-Err-clause-tell_fault : goal.returns-in-Err-clause-tell_fault
+returns-in-Err-clause-tell_fault g c = λ is.
+    subst (λ (f : ℕ → ℕ). Rose (f c.args.line) (g.G.Ground.tell_faults c.turn-turned.new.ground c.args.line)) c.requests.invariant.tell_faults
+    (c.in-Err.ensures.tell_fault (ap (λ (e : Ending). Err e) is))
+
+pub returns-in-Err-clause-quiet : goal.returns-in-Err-clause-quiet
+returns-in-Err-clause-quiet g c = λ other. c.in-Err.ensures.quiet (λ e. other (cc)) ∙ c.requests.invariant.tell_faults
+
+pub returns-in-Err-clause-source_fault : goal.returns-in-Err-clause-source_fault
+returns-in-Err-clause-source_fault g c = λ is.
+    subst (λ (n : ℕ). Rose n (g.S.Source.faults c.turn-turned.new.source)) c.requests.invariant.source_faults (c.in-Err.ensures.source_fault (ap (λ (e : Ending). Err e) is))
+
+pub returns-in-Err-clause-source_quiet : goal.returns-in-Err-clause-source_quiet
+returns-in-Err-clause-source_quiet g c = λ other. c.in-Err.ensures.source_quiet (λ e. other (cc)) ∙ c.requests.invariant.source_faults
+
+pub returns-in-Err-clause-disk : goal.returns-in-Err-clause-disk
+returns-in-Err-clause-disk g c = λ gt.
+    leaves_then (g.G.Ground.state c.args.ground.now) (g.G.Ground.state c.requests.ground) (g.G.Ground.state c.turn-turned.new.ground) (c.requests.invariant.disk gt) (c.in-Err.ensures.disk gt)

@@ -1,0 +1,26 @@
+use Rattle.std.proofs.Common.{◌≡◌, ◌<◌, ◌≤◌, ◌++◌, ℕ, List, length}
+use Rattle.arti_ground.specs.State.{LeavesDisk}
+use Rattle.arti_model.specs.Requests as model
+use Rattle.arti_model.specs.Store.{Repository}
+use Rattle.arti_wire.specs.declared.wire.Phase.TheVariants.{Between}
+use Rattle.arti_service.specs.Talk.{IsAnswered}
+use Rattle.arti_service.proofs.conversation.converse.Given as goal
+
+abbrev pub invariant-requests : goal.invariant-requests
+invariant-requests g l =
+    let state = g.G.Ground.state in
+    record {
+      phase : l.wire.phase ≡ Between;
+      room : 0 < length l.buf.items;
+      talk : g.G.Ground.tells → g.S.Source.tells → g.C.Clock.tells → (ending : model.Ending) (bytes : List ℕ) (after : Repository)
+          → IsAnswered l.limits l.most (g.C.Clock.moments l.clock) l.store (l.wire.ahead ++ g.S.Source.left l.source) ending bytes after
+          → (all : List ℕ) × IsAnswered l.limits l.limits.requests (g.C.Clock.moments l.fn.clock) l.fn.store (g.S.Source.left l.fn.source) ending all after
+          × ((state l.ground).told l.line ++ bytes ≡ (state l.fn.ground).told l.line ++ all);
+      tell_faults : g.G.Ground.tell_faults l.ground ≡ g.G.Ground.tell_faults l.fn.ground;
+      disk_faults : g.G.Ground.disk_faults l.ground ≡ g.G.Ground.disk_faults l.fn.ground;
+      source_faults : g.S.Source.faults l.source ≡ g.S.Source.faults l.fn.source;
+      disk : g.G.Ground.tells → LeavesDisk (state l.fn.ground) (state l.ground);
+    }
+
+abbrev pub decreases-requests : goal.decreases-requests
+decreases-requests g l = l.most

@@ -1,0 +1,51 @@
+use Rattle.std.proofs.Common.{◌≡◌, Bool, true, false, ap, ◌∙◌, rules}
+use Rattle.std.specs.Prelude.{Err}
+use Rattle.arti_wire.specs.Framing.{body_left}
+use Rattle.std.proofs.Common.{List, ℕ, ◌++◌}
+use Rattle.arti_service.specs.Talk.{Answers}
+use Rattle.arti_service.specs.declared.conversation.Ending.{Ending}
+use Rattle.arti_service.proofs.Talks.{ends_in_body, ends_at_last, turns, cut_end}
+use Rattle.arti_service.proofs.conversation.turn_on.Goals as goal
+
+pub returns-in-Err-clause-ends : goal.returns-in-Err-clause-ends
+returns-in-Err-clause-ends g c = λ gt st ct input begins.
+    let limits = c.args.limits.now in
+    let most = c.args.most in
+    let moments = g.C.Clock.moments c.args.clock.now in
+    let r = c.args.store.now in
+    let told = (g.G.Ground.state c.args.ground.now).told c.args.line in
+    let told' = (g.G.Ground.state c.answer_next.new.ground).told c.args.line in
+    let n = body_left c.args.wire.now.phase in
+    let rest : List ℕ = c.args.wire.now.ahead ++ g.S.Source.left c.args.source.now in
+    cut_end c.in-Err.ending (Answers limits most moments r input told told' c.answer_next.new.store) c.in-Err.ensures.ends
+    (λ cut. ends_in_body limits most moments r input c.args.request.now n rest c.requires.some begins told told' c.answer_next.new.store (c.in-Err.ensures.cut gt st (ap (λ (e : Ending). Err e) cut)))
+
+pub returns-then-last-clause-ends : goal.returns-then-last-clause-ends
+returns-then-last-clause-ends g c = λ gt st ct input begins.
+    let limits = c.args.limits.now in
+    let most = c.args.most in
+    let moments = g.C.Clock.moments c.args.clock.now in
+    let moments' = g.C.Clock.moments c.answer_next.new.clock in
+    let r = c.args.store.now in
+    let told = (g.G.Ground.state c.args.ground.now).told c.args.line in
+    let told' = (g.G.Ground.state c.answer_next.new.ground).told c.args.line in
+    let n = body_left c.args.wire.now.phase in
+    let rest : List ℕ = c.args.wire.now.ahead ++ g.S.Source.left c.args.source.now in
+    let input' : List ℕ = c.answer_next.new.wire.ahead ++ g.S.Source.left c.answer_next.new.source in
+    let last : c.args.request.now.last ≡ true = search rules in
+    ends_at_last limits most moments r input c.args.request.now n rest c.requires.some begins moments' c.answer_next.new.store input' told told' (c.in-Ok.ensures.one gt st ct) last
+
+pub returns-else-last-clause-turns : goal.returns-else-last-clause-turns
+returns-else-last-clause-turns g c = λ gt st ct input begins.
+    let limits = c.args.limits.now in
+    let most = c.args.most in
+    let moments = g.C.Clock.moments c.args.clock.now in
+    let moments' = g.C.Clock.moments c.answer_next.new.clock in
+    let r = c.args.store.now in
+    let told = (g.G.Ground.state c.args.ground.now).told c.args.line in
+    let told' = (g.G.Ground.state c.answer_next.new.ground).told c.args.line in
+    let n = body_left c.args.wire.now.phase in
+    let rest : List ℕ = c.args.wire.now.ahead ++ g.S.Source.left c.args.source.now in
+    let input' : List ℕ = c.answer_next.new.wire.ahead ++ g.S.Source.left c.answer_next.new.source in
+    let last : c.args.request.now.last ≡ false = search rules in
+    turns limits most moments r input c.args.request.now n rest c.requires.some begins moments' c.answer_next.new.store input' told told' (c.in-Ok.ensures.one gt st ct) last
