@@ -1,0 +1,13 @@
+use Rattle.std.proofs.Common.{◌≡◌, ◌+◌, ◌-◌, ◌≤◌, length, drop}
+use Rattle.std.specs.List.{prefix_len}
+use Rattle.arti_aql_lex.specs.Tokens.{is_name_byte}
+use Rattle.arti_aql_lex.proofs.lexer.name_len.Given as goal
+
+abbrev pub invariant-loop-len : goal.invariant-loop-len
+invariant-loop-len l = record {
+  within : l.len ≤ length l.rest;
+  same : prefix_len is_name_byte l.rest ≡ l.len + prefix_len is_name_byte (drop l.len l.rest);
+}
+
+abbrev pub decreases-loop-len : goal.decreases-loop-len
+decreases-loop-len l = length l.rest - l.len

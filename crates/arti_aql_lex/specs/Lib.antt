@@ -1,0 +1,4 @@
+pub mod Escape
+pub mod Literal
+pub mod Tokens
+pub mod Lexed

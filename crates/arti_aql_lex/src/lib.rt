@@ -1,0 +1,10 @@
+//! The tokens of a query text.
+#![tactic(auto)]
+
+pub mod escape;
+mod lexer;
+mod literal;
+mod token;
+
+pub use lexer::Lexer;
+pub use token::{LexFault, Token, TokenKind};
