@@ -1,2 +1,4 @@
+pub mod Readings
 pub mod Literals
 pub mod Rows
+pub mod Values

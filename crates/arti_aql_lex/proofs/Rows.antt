@@ -107,7 +107,7 @@ module _ (d : List ℕ) (at start : ℕ) (reach : at ≤ length d) (blanks : sta
   pub next_fault : (f : LexFault) → 0 < length (drop start d) → token_at start (drop start d) ≡ Err f → lexed at 0 (drop at d) ≡ fault f
   next_fault f some found = from_start ∙ lexed_fault start f (drop start d) some (first_no_blank some) found
 
-  pub next_ok : (r : Result Token LexFault) (xs : List ℕ) → start ≤ length d → xs ≡ drop start d → r ≡ token_at start xs → IfOk r (λ t. (t.start ≡ start) × (t.end ≤ start + length xs)) → (length xs ≡ 0 → IfOk r (λ t. is_end t.kind ≡ true))
+  pub next_ok : (r : Result Token LexFault) (xs : List ℕ) → start ≤ length d → xs ≡ drop start d → r ≡ token_at start xs → IfOk r (λ t. (t.start ≡ start) × (t.start ≤ t.end) × (t.end ≤ start + length xs)) → (length xs ≡ 0 → IfOk r (λ t. is_end t.kind ≡ true))
       → (0 < length xs → IfOk r (λ t. (is_end t.kind ≡ false) × (start < t.end))) → IfOk r (λ t. lexed at 0 (drop at d) ≡ before d t (lexed t.end 0 (drop t.end d)))
   next_ok (Err f) xs inside is read within ends goes = tt
   next_ok (Ok t) xs inside is read within ends goes =
@@ -115,7 +115,7 @@ module _ (d : List ℕ) (at start : ℕ) (reach : at ≤ length d) (blanks : sta
       next_before t (record {
         found = sym (read ∙ ap (token_at start) is);
         starts = within.0;
-        within = omega (arith, within.1, same, length-drop start d, inside);
+        within = omega (arith, within.2, same, length-drop start d, inside);
         ends = λ none. ends (same ∙ none);
         goes = λ some. goes (omega (arith, same, some));
       })

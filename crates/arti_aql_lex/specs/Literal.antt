@@ -1,5 +1,5 @@
 -- A text in double quotes: its pieces, which are escapes and other bytes, its end, and the bytes that it stands for.
-use Rattle.std.specs.Prelude.{ℕ, zero, suc, ◌+◌, ◌-◌, List, [], ◌∷◌, ◌++◌, slice_index, if◌then◌else◌, ◌==◌, nat_lt, Result, Ok, Err}
+use Rattle.std.specs.Prelude.{◌≡◌, Bool, not, ◌||◌, ℕ, zero, suc, ◌+◌, ◌-◌, List, [], ◌∷◌, ◌++◌, slice_index, if◌then◌else◌, ◌==◌, nat_lt, Result, Ok, Err}
 use Rattle.std.specs.Char.{encode_utf8}
 use Rattle.arti_aql_lex.specs.Escape.{◌>>=◌, escape_at}
 use Rattle.arti_aql_lex.specs.declared.escape.Spoiled.{Spoiled}
@@ -50,3 +50,11 @@ unfoldable pub literal_text : (more : ℕ) → List ℕ → List ℕ
 literal_text more [] = []
 literal_text (suc n) (b ∷ bs) = literal_text n bs
 literal_text zero (b ∷ bs) = if b == 34 then [] else piece_text (b ∷ bs) ++ literal_text (piece_width (b ∷ bs) - 1) bs
+
+-- these bytes go on to a closing quote, without a fault
+abbrev pub IsClosed : List ℕ → Type 0
+IsClosed rest = (opening : ℕ) × (place : ℕ) × (end : ℕ) × (literal_end opening place 0 rest ≡ Ok end)
+
+-- a byte that stands for itself, unless it is a control character
+abbrev pub is_plain : ℕ → Bool
+is_plain b = not ((b == 34) || (b == 92))

@@ -86,5 +86,7 @@ abbrev pub text_of : List ℕ → Token → List ℕ
 text_of text t = value_at t (drop t.start text)
 
 -- the text has this token at its place
-abbrev pub HasToken : List ℕ → Token → Type 0
-HasToken text t = (t.start ≤ length text) × (token_at t.start (drop t.start text) ≡ Ok t)
+pub record HasToken (text : List ℕ) (t : Token) : Type 0 where
+  pub forward : t.start ≤ t.end
+  pub within : t.end ≤ length text
+  pub read : token_at t.start (drop t.start text) ≡ Ok t
