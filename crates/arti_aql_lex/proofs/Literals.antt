@@ -1,8 +1,7 @@
 -- Steps of a text in quotes, at a place of it.
-use Rattle.std.proofs.Common.{◌≡◌, ◌≢◌, ℕ, zero, suc, ◌+◌, ◌-◌, ◌<◌, ◌≤◌, List, [], ◌∷◌, ◌++◌, length, get_or, drop, Ok, Err, refl, sym, ap, ◌∙◌, arith, add-zero}
-use Rattle.std.proofs.lemmas.List.{drop_more, drop_all, drop-drop, length-drop}
+use Rattle.std.proofs.Common.{◌≡◌, ◌≢◌, ℕ, zero, suc, ◌+◌, ◌-◌, ◌<◌, ◌≤◌, List, [], ◌∷◌, length, get_or, drop, Ok, Err, refl, sym, ap, ◌∙◌, arith}
+use Rattle.std.proofs.lemmas.List.{drop_more, drop_all, drop-drop}
 use Rattle.std.proofs.lemmas.Bool.{ne_eqb}
-use Rattle.arti_aql_lex.specs.Escape.{◌>>=◌}
 use Rattle.arti_aql_lex.specs.Literal.{piece_len, literal_end}
 use Rattle.arti_aql_lex.specs.declared.token.LexFault.{LexFault}
 use Rattle.arti_aql_lex.specs.declared.token.LexFault.TheVariants.{OpenText}

@@ -1,15 +1,15 @@
 -- What a token that was read stands on, kind by kind.
-use Rattle.std.proofs.Common.{◌≡◌, ◌≢◌, ℕ, ◌+◌, ◌-◌, ◌<◌, ◌≤◌, ◌⊎◌, Bool, true, false, cond, ◌&&◌, ◌||◌, ◌==◌, nat_lt, List, length, get_or, take, drop, Option, Some, None, Result, Ok, Err, refl, sym, ap, ◌∙◌, subst, inl, inr, ⊎_elim, arith, IsUtf8, ltb-false, add-zero, min}
+use Rattle.std.proofs.Common.{◌≡◌, ◌≢◌, ℕ, ◌+◌, ◌-◌, ◌<◌, ◌≤◌, ◌⊎◌, Bool, true, false, cond, ◌&&◌, ◌||◌, ◌==◌, nat_lt, List, length, get_or, take, drop, Option, Some, None, Result, Ok, Err, refl, sym, ap, ◌∙◌, subst, inl, inr, ⊎_elim, arith, IsUtf8, add-zero}
 use Rattle.std.specs.List.{prefix_len}
-use Rattle.std.specs.Char.{is_ascii_digit, is_ascii_alphabetic}
-use Rattle.std.specs.Str.{IsAscii, IsCharBoundary}
+use Rattle.std.specs.Char.{is_ascii_digit}
+use Rattle.std.specs.Str.{IsCharBoundary}
 use Rattle.std.proofs.lemmas.List.{get_or-take, get_or-drop, get_or_past, length-take, length-drop, drop-drop}
 use Rattle.std.proofs.lemmas.List.Sums.{prefix_len_passes}
 use Rattle.std.proofs.lemmas.Str.{IsUtf8-from_ascii, IsCharBoundary-after_ascii}
 use Rattle.std.proofs.lemmas.Bool.{false≢true, eqb-true, eq-eqb, cases_lt}
 use Rattle.std.proofs.lemmas.Bool.Decides.{nat_tests}
 use Rattle.arti_aql_lex.specs.Literal.{literal_end, literal_text, IsClosed}
-use Rattle.arti_aql_lex.specs.Tokens.{is_name_start, is_name_byte, mark_of, sign_len, digits_end, number_end, token_to, mark_at, token_at, is_words, value_at, text_of, HasToken}
+use Rattle.arti_aql_lex.specs.Tokens.{is_name_start, is_name_byte, mark_of, sign_len, digits_end, number_end, token_to, mark_at, token_at, is_words, text_of, HasToken}
 use Rattle.arti_aql_lex.specs.declared.token.LexFault.{LexFault}
 use Rattle.arti_aql_lex.specs.declared.token.LexFault.TheVariants.{BadByte}
 use Rattle.arti_aql_lex.specs.declared.token.Token.{Token}
@@ -40,19 +40,19 @@ unfolding token_at
 token_is p rest t h =
     ⊎_elim (λ a. let r = token_to_ok End p (Ok p) t a.1 in let last : Ok p ≡ Ok t.end = r.1 in at_end (eqb-true (length rest) 0 a.0) r.0 cc)
     (λ a. ⊎_elim (λ b. let r = token_to_ok Name p (Ok (p + prefix_len is_name_byte rest)) t b.1 in let last : Ok (p + prefix_len is_name_byte rest) ≡ Ok t.end = r.1 in at_name b.0 r.0 cc)
-      (λ b. ⊎_elim (λ d. let r = token_to_ok Number p (number_end p rest) t d.1 in at_number r.1 r.0)
-        (λ d. ⊎_elim (λ e. let r = token_to_ok Words p (literal_end p (p + 1) 0 (drop 1 rest)) t e.1 in at_words (λ z. false≢true (sym a.0 ∙ eq-eqb (length rest) 0 z)) (eqb-true (get_or rest 0 0) 34 e.0) r.0 r.1)
-          (λ e. let r = mark_at_ok p (mark_of (get_or rest 0 0)) t e.1 in at_mark r.0 r.1)
-          (chosen (get_or rest 0 0 == 34) _ _ _ d.1))
-        (chosen (is_ascii_digit (get_or rest 0 0) || (get_or rest 0 0 == 45)) _ _ _ b.1))
-      (chosen (is_name_start (get_or rest 0 0)) _ _ _ a.1))
+    (λ b. ⊎_elim (λ d. let r = token_to_ok Number p (number_end p rest) t d.1 in at_number r.1 r.0)
+    (λ d. ⊎_elim (λ e. let r = token_to_ok Words p (literal_end p (p + 1) 0 (drop 1 rest)) t e.1 in at_words (λ z. false≢true (sym a.0 ∙ eq-eqb (length rest) 0 z)) (eqb-true (get_or rest 0 0) 34 e.0) r.0 r.1)
+    (λ e. let r = mark_at_ok p (mark_of (get_or rest 0 0)) t e.1 in at_mark r.0 r.1)
+    (chosen (get_or rest 0 0 == 34) _ _ _ d.1))
+    (chosen (is_ascii_digit (get_or rest 0 0) || (get_or rest 0 0 == 45)) _ _ _ b.1))
+    (chosen (is_name_start (get_or rest 0 0)) _ _ _ a.1))
     (chosen (length rest == 0) _ _ _ h)
 
 ascii_front : (rest : List ℕ) (n : ℕ) → ((i : ℕ) → i < n → get_or rest i 0 < 128) → IsUtf8 (take n rest)
 ascii_front rest n below = IsUtf8-from_ascii (take n rest) (λ i.
     ⊎_elim (λ lt. subst (λ (b : ℕ). b < 128) (sym (get_or-take n rest i 0 lt)) (below i lt))
-      (λ ge. subst (λ (b : ℕ). b < 128) (sym (get_or_past (take n rest) i 0 (omega (arith, length-take n rest)))) (omega arith))
-      (cases_lt i n))
+    (λ ge. subst (λ (b : ℕ). b < 128) (sym (get_or_past (take n rest) i 0 (omega (arith, length-take n rest)))) (omega arith))
+    (cases_lt i n))
 
 name_ascii : (b : ℕ) → is_name_byte b ≡ true → b < 128
 name_ascii b e = grind (arith, nat_tests)
@@ -76,10 +76,10 @@ digits_end_ok : (p : ℕ) (rest : List ℕ) (sign digits e : ℕ) → digits_end
 digits_end_ok p rest sign digits e h =
     ⊎_elim (λ a. let never : Err (BadByte p) ≡ Ok e = a.1 in cc)
     (λ a. ⊎_elim (λ b. let never : Err (BadByte (p + sign)) ≡ Ok e = b.1 in cc)
-      (λ b. ⊎_elim (λ d. let never : Err (BadByte (p + sign + 18)) ≡ Ok e = d.1 in cc)
-        (λ d. let is : Ok (p + sign + digits) ≡ Ok e = d.1 in cc)
-        (chosen (nat_lt 18 digits) _ _ _ b.1))
-      (chosen ((get_or rest sign 0 == 48) && nat_lt 1 digits) _ _ _ a.1))
+    (λ b. ⊎_elim (λ d. let never : Err (BadByte (p + sign + 18)) ≡ Ok e = d.1 in cc)
+    (λ d. let is : Ok (p + sign + digits) ≡ Ok e = d.1 in cc)
+    (chosen (nat_lt 18 digits) _ _ _ b.1))
+    (chosen ((get_or rest sign 0 == 48) && nat_lt 1 digits) _ _ _ a.1))
     (chosen (digits == 0) _ _ _ h)
 
 sign_is : (rest : List ℕ) (t : Bool) → (get_or rest 0 0 == 45) ≡ t → (sign_len rest ≡ 0) ⊎ ((sign_len rest ≡ 1) × (get_or rest 0 0 ≡ 45))
@@ -95,10 +95,10 @@ number_ascii p e rest h i lt =
     ⊎_elim
     (λ inside. ⊎_elim (λ none. absurd (omega (arith, none))) (λ one. let first : i ≡ 0 = omega (arith, one.0) in subst (λ (k : ℕ). get_or rest k 0 < 128) (sym first) (omega (arith, one.1))) (sign_is rest (get_or rest 0 0 == 45) refl))
     (λ behind.
-      let k = i - s in
-      let there : s + k ≡ i = omega arith in
-      let digit : is_ascii_digit (get_or (drop s rest) k 0) ≡ true = prefix_len_passes is_ascii_digit (drop s rest) k 0 (omega (arith, last)) in
-      digit_ascii (get_or rest i 0) (ap is_ascii_digit (sym (get_or-drop s rest k 0 ∙ ap (λ n. get_or rest n 0) there)) ∙ digit))
+    let k = i - s in
+    let there : s + k ≡ i = omega arith in
+    let digit : is_ascii_digit (get_or (drop s rest) k 0) ≡ true = prefix_len_passes is_ascii_digit (drop s rest) k 0 (omega (arith, last)) in
+    digit_ascii (get_or rest i 0) (ap is_ascii_digit (sym (get_or-drop s rest k 0 ∙ ap (λ n. get_or rest n 0) there)) ∙ digit))
     (cases_lt i s)
 
 plain_by_case : (p : ℕ) (rest : List ℕ) (t : Token) → At p rest t → t.start ≡ p → is_words t.kind ≡ false → (i : ℕ) → i < t.end - t.start → get_or rest i 0 < 128

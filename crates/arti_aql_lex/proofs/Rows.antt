@@ -1,10 +1,10 @@
 -- Steps of a row of tokens.
-use Rattle.std.proofs.Common.{◌≡◌, ◌≢◌, ℕ, zero, suc, ◌+◌, ◌-◌, ◌<◌, ◌≤◌, Bool, true, false, cond, List, [], ◌∷◌, ◌++◌, length, get_or, take, drop, Result, Ok, Err, IfOk, IfErr, refl, sym, ap, ◌∙◌, subst, arith, add-zero, one-add}
+use Rattle.std.proofs.Common.{◌≡◌, ℕ, zero, suc, ◌+◌, ◌-◌, ◌<◌, ◌≤◌, Bool, true, false, cond, List, [], ◌∷◌, length, get_or, drop, Result, Ok, Err, IfOk, IfErr, refl, sym, ap, ◌∙◌, arith, add-zero, one-add}
 use Rattle.std.specs.List.{prefix_len}
 use Rattle.std.proofs.lemmas.List.{drop-drop, length-drop, get_or-drop}
 use Rattle.std.proofs.lemmas.List.Sums.{prefix_len_stops}
-use Rattle.arti_aql_lex.specs.Tokens.{is_blank, token_at, value_at, text_of, is_end, HasToken}
-use Rattle.arti_aql_lex.specs.Lexed.{Lexed, finish, fault, token, begins, lexed, before}
+use Rattle.arti_aql_lex.specs.Tokens.{is_blank, token_at, value_at, text_of, is_end}
+use Rattle.arti_aql_lex.specs.Lexed.{finish, fault, token, begins, lexed, before}
 use Rattle.arti_aql_lex.specs.declared.token.LexFault.{LexFault}
 use Rattle.arti_aql_lex.specs.declared.token.Token.{Token}
 
@@ -52,7 +52,7 @@ lexed_token p q t (b ∷ bs) some first found starts long within far =
     lexed_begins p b bs first
     ∙ ap (λ r. begins r (b ∷ bs) (λ n. lexed (p + 1) n bs)) found
     ∙ ap (token t.start t.end t.kind (value_at t (b ∷ bs)))
-      (lexed_more (p + 1) (t.end - t.start - 1) bs n ∙ ap (λ k. lexed k 0 (drop (t.end - t.start - 1) bs)) place ∙ ap (λ k. lexed t.end 0 (drop k (b ∷ bs))) behind)
+    (lexed_more (p + 1) (t.end - t.start - 1) bs n ∙ ap (λ k. lexed k 0 (drop (t.end - t.start - 1) bs)) place ∙ ap (λ k. lexed t.end 0 (drop k (b ∷ bs))) behind)
 
 lexed_fault : (p : ℕ) (f : LexFault) (xs : List ℕ) → 0 < length xs → is_blank (get_or xs 0 0) ≡ false → token_at p xs ≡ Err f → lexed p 0 xs ≡ fault f
 lexed_fault p f [] some first found = absurd (omega arith)

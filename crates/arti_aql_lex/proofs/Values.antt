@@ -1,5 +1,5 @@
 -- Steps of what a text stands for.
-use Rattle.std.proofs.Common.{◌≡◌, ◌≢◌, ℕ, zero, suc, ◌+◌, ◌-◌, ◌<◌, ◌≤◌, Bool, true, false, not, ◌||◌, ◌==◌, nat_lt, cond, List, [], ◌∷◌, ◌++◌, length, get_or, take, drop, Result, Ok, Err, refl, sym, ap, ◌∙◌, subst, arith, add-zero, one-add, append_assoc, IsUtf8}
+use Rattle.std.proofs.Common.{◌≡◌, ◌≢◌, ℕ, zero, suc, ◌+◌, ◌-◌, ◌<◌, ◌≤◌, Bool, true, false, not, ◌||◌, ◌==◌, nat_lt, List, [], ◌∷◌, ◌++◌, length, get_or, take, drop, Ok, Err, refl, sym, ap, ◌∙◌, subst, arith, add-zero, one-add, append_assoc, IsUtf8}
 use Rattle.std.proofs.lemmas.Str.{IsUtf8-append, IsUtf8-between, IsCharBoundary-before_ascii, IsCharBoundary-after_ascii}
 use Rattle.std.specs.List.{prefix_len}
 use Rattle.std.specs.Char.{encode_utf8}
@@ -10,7 +10,6 @@ use Rattle.std.proofs.lemmas.Bool.{false≢true, eqb-true, eq-eqb, ne_eqb}
 use Rattle.arti_aql_lex.specs.Escape.{◌>>=◌, escape_at}
 use Rattle.arti_aql_lex.specs.Literal.{piece_len, literal_end, piece_text, piece_width, literal_text, character_of, width_of, escape_len, is_plain, IsClosed, spoiled_at}
 use Rattle.arti_aql_lex.specs.declared.escape.Spoiled.{Spoiled}
-use Rattle.arti_aql_lex.specs.declared.token.LexFault.{LexFault}
 use Rattle.arti_aql_lex.specs.declared.token.LexFault.TheVariants.{BadByte}
 use Rattle.arti_aql_lex.proofs.Literals.{literal_end_more}
 

@@ -1,5 +1,5 @@
 -- The escapes of a text (RFC 8259, section 7), read from the backslash on. A surrogate stands only in a pair.
-use Rattle.std.specs.Prelude.{ℕ, ◌+◌, ◌-◌, ◌*◌, List, Bool, true, false, length, slice_index, if◌then◌else◌, ◌==◌, ◌&&◌, ◌||◌, nat_lt, nat_le, Option, Some, None, Result, Ok, Err}
+use Rattle.std.specs.Prelude.{ℕ, ◌+◌, ◌-◌, ◌*◌, List, Bool, length, slice_index, if◌then◌else◌, ◌==◌, ◌&&◌, ◌||◌, nat_lt, nat_le, Option, Some, None, Result, Ok, Err}
 use Rattle.std.specs.Char.{is_digit, digit_value}
 use Rattle.arti_aql_lex.specs.declared.escape.Spoiled.{Spoiled}
 use Rattle.arti_aql_lex.specs.declared.escape.Spoiled.TheVariants.{Cut, Malformed}

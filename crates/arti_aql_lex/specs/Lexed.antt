@@ -1,5 +1,5 @@
 -- A text as the row of its tokens.
-use Rattle.std.specs.Prelude.{◌≡◌, ℕ, zero, suc, ◌+◌, ◌-◌, ◌≤◌, List, [], ◌∷◌, drop, if◌then◌else◌, Result, Ok, Err}
+use Rattle.std.specs.Prelude.{◌≡◌, ℕ, zero, suc, ◌+◌, ◌-◌, List, [], ◌∷◌, drop, if◌then◌else◌, Result, Ok, Err}
 use Rattle.arti_aql_lex.specs.Tokens.{is_blank, token_at, value_at, text_of, is_end, HasToken}
 use Rattle.arti_aql_lex.specs.declared.token.LexFault.{LexFault}
 use Rattle.arti_aql_lex.specs.declared.token.Token.{Token}

@@ -9,3 +9,6 @@ mod value;
 
 pub use lexer::Lexer;
 pub use token::{LexFault, Token, TokenKind};
+
+#[cfg(test)]
+mod tests;

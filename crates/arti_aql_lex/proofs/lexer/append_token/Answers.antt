@@ -1,6 +1,4 @@
-use Rattle.std.specs.Prelude.{IsUtf8}
-use Rattle.std.proofs.Common.{sym, ◌∙◌, rules}
-use Rattle.arti_aql_lex.specs.Tokens.{text_of}
+use Rattle.std.proofs.Common.{sym, rules}
 use Rattle.arti_aql_lex.proofs.Readings.{plain_utf8}
 use Rattle.arti_aql_lex.proofs.lexer.append_token.Goals as goal
 

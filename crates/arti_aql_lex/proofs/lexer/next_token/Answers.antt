@@ -1,4 +1,4 @@
-use Rattle.std.proofs.Common.{◌≡◌, ◌+◌, sym, ap, ◌∙◌, arith, length, drop}
+use Rattle.std.proofs.Common.{◌+◌, ap, ◌∙◌, arith}
 use Rattle.std.specs.List.{prefix_len}
 use Rattle.arti_aql_lex.specs.Tokens.{is_blank}
 use Rattle.arti_aql_lex.proofs.Rows.{next_ok, next_err}

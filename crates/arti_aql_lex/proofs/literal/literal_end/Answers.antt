@@ -1,5 +1,4 @@
-use Rattle.std.proofs.Common.{◌≡◌, ◌≢◌, ◌+◌, ◌<◌, ◌≤◌, length, get_or, drop, Ok, sym, ap, ◌∙◌, arith}
-use Rattle.std.proofs.lemmas.List.{length-drop}
+use Rattle.std.proofs.Common.{◌≡◌, ◌≢◌, ◌+◌, ◌<◌, get_or, drop, Ok, sym, ap, ◌∙◌, arith}
 use Rattle.arti_aql_lex.specs.Literal.{piece_len, literal_end}
 use Rattle.arti_aql_lex.proofs.Literals.{end_at_piece}
 use Rattle.arti_aql_lex.proofs.literal.literal_end.Goals as goal

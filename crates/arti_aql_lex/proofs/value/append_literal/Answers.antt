@@ -1,4 +1,4 @@
-use Rattle.std.proofs.Common.{◌≡◌, ◌≢◌, ◌+◌, ◌-◌, ◌<◌, ◌≤◌, ◌++◌, [], length, get_or, take, drop, Ok, refl, sym, ap, ◌∙◌, subst, arith, append-nil, get_or-drop, add-zero, IsUtf8}
+use Rattle.std.proofs.Common.{◌≡◌, ◌≢◌, ◌+◌, ◌-◌, ◌<◌, ◌≤◌, ◌++◌, [], length, get_or, take, drop, Ok, refl, sym, ap, ◌∙◌, arith, append-nil, get_or-drop, add-zero, IsUtf8}
 use Rattle.arti_aql_lex.specs.Escape.{escape_at}
 use Rattle.std.proofs.lemmas.Str.{IsUtf8-nil}
 use Rattle.std.specs.List.{prefix_len}
