@@ -1,0 +1,9 @@
+//! Query texts, read and printed.
+#![tactic(auto)]
+
+mod thin;
+
+pub use thin::{ThinFault, thin_parse};
+
+#[cfg(test)]
+mod tests;
