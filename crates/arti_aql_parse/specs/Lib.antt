@@ -1,1 +1,4 @@
 pub mod Thin
+pub mod Words
+pub mod Tree
+pub mod View

@@ -1,8 +1,14 @@
 //! Query texts, read and printed.
 #![tactic(auto)]
 
+mod fault;
+mod query;
 mod thin;
+mod words;
 
+pub use arti_rows::What;
+pub use fault::ParseFault;
+pub use query::{Lit, Member, Object, Op, Query, Sort, Test};
 pub use thin::{ThinFault, thin_parse};
 
 #[cfg(test)]
