@@ -1,15 +1,15 @@
 -- What a token that was read stands on, kind by kind.
-use Rattle.std.proofs.Common.{◌≡◌, ◌≢◌, ℕ, ◌+◌, ◌-◌, ◌<◌, ◌≤◌, ◌⊎◌, Bool, true, false, cond, ◌&&◌, ◌||◌, ◌==◌, nat_lt, List, length, get_or, take, drop, Option, Some, None, Result, Ok, Err, refl, sym, ap, ◌∙◌, subst, inl, inr, ⊎_elim, arith, IsUtf8, add-zero}
+use Rattle.std.proofs.Common.{◌≡◌, ◌≢◌, ℕ, ◌+◌, ◌-◌, ◌<◌, ◌≤◌, ◌⊎◌, Bool, true, false, cond, ◌&&◌, ◌||◌, ◌==◌, nat_lt, List, length, get_or, take, drop, Option, Some, None, Result, Ok, Err, refl, sym, ap, ◌∙◌, subst, inl, inr, ⊎_elim, arith, IsUtf8, add-zero, ltb-false}
 use Rattle.std.specs.List.{prefix_len}
 use Rattle.std.specs.Char.{is_ascii_digit}
 use Rattle.std.specs.Str.{IsCharBoundary}
 use Rattle.std.proofs.lemmas.List.{get_or-take, get_or-drop, get_or_past, length-take, length-drop, drop-drop}
-use Rattle.std.proofs.lemmas.List.Sums.{prefix_len_passes}
+use Rattle.std.proofs.lemmas.List.Sums.{prefix_len_passes, prefix_len-le-length}
 use Rattle.std.proofs.lemmas.Str.{IsUtf8-from_ascii, IsCharBoundary-after_ascii}
 use Rattle.std.proofs.lemmas.Bool.{false≢true, eqb-true, eq-eqb, cases_lt}
 use Rattle.std.proofs.lemmas.Bool.Decides.{nat_tests}
 use Rattle.arti_aql_lex.specs.Literal.{literal_end, literal_text, IsClosed}
-use Rattle.arti_aql_lex.specs.Tokens.{is_name_start, is_name_byte, mark_of, sign_len, digits_end, number_end, token_to, mark_at, token_at, is_words, text_of, HasToken}
+use Rattle.arti_aql_lex.specs.Tokens.{is_name_start, is_name_byte, mark_of, sign_len, digits_end, number_end, token_to, mark_at, token_at, is_words, text_of, HasToken, IsNumber, is_number}
 use Rattle.arti_aql_lex.specs.declared.token.LexFault.{LexFault}
 use Rattle.arti_aql_lex.specs.declared.token.LexFault.TheVariants.{BadByte}
 use Rattle.arti_aql_lex.specs.declared.token.Token.{Token}
@@ -101,6 +101,53 @@ number_ascii p e rest h i lt =
     digit_ascii (get_or rest i 0) (ap is_ascii_digit (sym (get_or-drop s rest k 0 ∙ ap (λ n. get_or rest n 0) there)) ∙ digit))
     (cases_lt i s)
 
+digits_end_few : (p : ℕ) (rest : List ℕ) (sign digits e : ℕ) → digits_end p rest sign digits ≡ Ok e → (0 < digits) × (digits ≤ 18)
+digits_end_few p rest sign digits e h =
+    ⊎_elim (λ a. let never : Err (BadByte p) ≡ Ok e = a.1 in cc)
+    (λ a. ⊎_elim (λ b. let never : Err (BadByte (p + sign)) ≡ Ok e = b.1 in cc)
+    (λ b. ⊎_elim (λ d. let never : Err (BadByte (p + sign + 18)) ≡ Ok e = d.1 in cc)
+    (λ d. let some : digits ≢ 0 = λ z. false≢true (sym a.0 ∙ eq-eqb digits 0 z) in (omega arith, ltb-false 18 digits d.0))
+    (chosen (nat_lt 18 digits) _ _ _ b.1))
+    (chosen ((get_or rest sign 0 == 48) && nat_lt 1 digits) _ _ _ a.1))
+    (chosen (digits == 0) _ _ _ h)
+
+sign_low : (rest : List ℕ) (t : Bool) → (get_or rest 0 0 == 45) ≡ t → sign_len rest ≤ 1
+sign_low rest true q = let is : sign_len rest ≡ 1 = ap (λ b. cond b 1 0) q in omega arith
+sign_low rest false q = let is : sign_len rest ≡ 0 = ap (λ b. cond b 1 0) q in omega arith
+
+-- the bytes of a number that was read
+number_is : (p e : ℕ) (rest : List ℕ) → number_end p rest ≡ Ok e → IsNumber (take (e - p) rest)
+unfolding number_end
+number_is p e rest h =
+    let s = sign_len rest in
+    let n = prefix_len is_ascii_digit (drop s rest) in
+    let last = digits_end_ok p rest s n e h in
+    let few = digits_end_few p rest s n e h in
+    let low = sign_low rest (get_or rest 0 0 == 45) refl in
+    let bytes = take (e - p) rest in
+    let within : n ≤ length (drop s rest) = prefix_len-le-length is_ascii_digit (drop s rest) in
+    let there : s < length rest = omega (arith, within, few.0, length-drop s rest) in
+    let long : length bytes ≡ s + n = omega (arith, length-take (e - p) rest, last, within, length-drop s rest) in
+    let first : get_or bytes 0 0 ≡ get_or rest 0 0 = get_or-take (e - p) rest 0 0 (omega (arith, last, few.0)) in
+    let same : sign_len bytes ≡ s = ap (λ b. cond (b == 45) 1 0) first in
+    record {
+      some = omega (arith, same, long, few.0);
+      few = omega (arith, same, long, few.1);
+      digits = λ i from lt.
+          let k = i - s in
+          let there : s + k ≡ i = omega (arith, same, from) in
+          let less : i < e - p = omega (arith, lt, long, last) in
+          ap is_ascii_digit (get_or-take (e - p) rest i 0 less ∙ ap (λ m. get_or rest m 0) (sym there) ∙ sym (get_or-drop s rest k 0)) ∙ prefix_len_passes is_ascii_digit (drop s rest) k 0 (omega (arith, lt, long, same, from));
+    }
+
+by_mark_number : (t : Bool) (m k : TokenKind) (r : Option TokenKind) → is_number m ≡ false → (r ≡ Some k → is_number k ≡ false) → cond t (Some m) r ≡ Some k → is_number k ≡ false
+by_mark_number true m k r here more e = let is : m ≡ k = cc in ap is_number (sym is) ∙ here
+by_mark_number false m k r here more e = more e
+
+mark_no_number : (b : ℕ) (k : TokenKind) → mark_of b ≡ Some k → is_number k ≡ false
+unfolding mark_of
+mark_no_number b k = by_mark_number (b == 46) Dot k _ refl (by_mark_number (b == 40) Open k _ refl (by_mark_number (b == 41) Close k _ refl (by_mark_number (b == 123) ObjectOpen k _ refl (by_mark_number (b == 125) ObjectClose k _ refl (by_mark_number (b == 91) ListOpen k _ refl (by_mark_number (b == 93) ListClose k _ refl (by_mark_number (b == 58) Colon k _ refl (by_mark_number (b == 44) Comma k _ refl (λ never. let none : None ≡ Some k = never in cc)))))))))
+
 plain_by_case : (p : ℕ) (rest : List ℕ) (t : Token) → At p rest t → t.start ≡ p → is_words t.kind ≡ false → (i : ℕ) → i < t.end - t.start → get_or rest i 0 < 128
 plain_by_case p rest t (at_end none kind end) start other i lt = absurd (omega arith)
 plain_by_case p rest t (at_name first kind end) start other i lt = name_ascii (get_or rest i 0) (prefix_len_passes is_name_byte rest i 0 (omega arith))
@@ -141,3 +188,16 @@ quoted_by_case text t utf8 inside words (at_mark mark end) = absurd (false≢tru
 
 pub quoted : (text : List ℕ) (t : Token) → IsUtf8 text → HasToken text t → is_words t.kind ≡ true → Quoted text t
 quoted text t utf8 has words = quoted_by_case text t utf8 (omega (arith, has.forward, has.within)) words (token_is t.start (drop t.start text) t has.read)
+
+number_by_case : (text : List ℕ) (t : Token) → is_number t.kind ≡ true → At t.start (drop t.start text) t → IsNumber (text_of text t)
+number_by_case text t number (at_end none kind end) = absurd (false≢true (sym (ap is_number kind) ∙ number))
+number_by_case text t number (at_name first kind end) = absurd (false≢true (sym (ap is_number kind) ∙ number))
+number_by_case text t number (at_number end kind) =
+    let other : is_words t.kind ≡ false = ap is_words kind in
+    subst IsNumber (ap (λ w. cond w (literal_text 0 (drop 1 (drop t.start text))) (take (t.end - t.start) (drop t.start text))) (sym other)) (number_is t.start t.end (drop t.start text) end)
+number_by_case text t number (at_words some quote kind end) = absurd (false≢true (sym (ap is_number kind) ∙ number))
+number_by_case text t number (at_mark mark end) = absurd (false≢true (sym (mark_no_number (get_or (drop t.start text) 0 0) t.kind mark) ∙ number))
+
+-- what a number token stands for
+pub number_token : (text : List ℕ) (t : Token) → HasToken text t → is_number t.kind ≡ true → IsNumber (text_of text t)
+number_token text t has number = number_by_case text t number (token_is t.start (drop t.start text) t has.read)

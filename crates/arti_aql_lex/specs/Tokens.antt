@@ -1,5 +1,5 @@
 -- The token at a place of a text, or the fault there.
-use Rattle.std.specs.Prelude.{◌≡◌, ◌≤◌, ℕ, ◌+◌, ◌-◌, List, Bool, true, false, length, take, drop, slice_index, if◌then◌else◌, ◌==◌, ◌&&◌, ◌||◌, nat_lt, Option, Some, None, Result, Ok, Err}
+use Rattle.std.specs.Prelude.{◌≡◌, ◌<◌, ◌≤◌, ℕ, ◌+◌, ◌-◌, List, Bool, true, false, length, take, drop, slice_index, if◌then◌else◌, ◌==◌, ◌&&◌, ◌||◌, nat_lt, Option, Some, None, Result, Ok, Err}
 use Rattle.std.specs.List.{prefix_len}
 use Rattle.std.specs.Char.{is_ascii_digit, is_ascii_alphabetic}
 use Rattle.arti_aql_lex.specs.Literal.{literal_end, literal_text}
@@ -90,3 +90,13 @@ pub record HasToken (text : List ℕ) (t : Token) : Type 0 where
   pub forward : t.start ≤ t.end
   pub within : t.end ≤ length text
   pub read : token_at t.start (drop t.start text) ≡ Ok t
+
+-- these bytes are a number's: perhaps a minus, and 1 to 18 digits
+pub record IsNumber (bytes : List ℕ) : Type 0 where
+  pub some : sign_len bytes < length bytes
+  pub few : length bytes ≤ sign_len bytes + 18
+  pub digits : (i : ℕ) → sign_len bytes ≤ i → i < length bytes → is_ascii_digit (slice_index bytes i) ≡ true
+
+abbrev pub is_number : TokenKind → Bool
+is_number Number = true
+is_number _ = false

@@ -2,7 +2,7 @@
 ghost use Rattle.std.specs.Prelude.{◌≡◌, ◌≤◌, ◌<◌, ◌+◌, ◌^◌, false, true, length, drop, ◌++◌, IfOk, IfErr, IfSome, OnOk, OnErr, IsUtf8};
 ghost use Rattle.std.specs.Char.{is_ascii_digit};
 ghost use Rattle.std.specs.List.{prefix_len};
-ghost use Rattle.arti_aql_lex.specs.Tokens.{is_blank, is_name_start, is_name_byte, mark_of, number_end, token_at, is_end, is_words, text_of, HasToken};
+ghost use Rattle.arti_aql_lex.specs.Tokens.{is_blank, is_name_start, is_name_byte, mark_of, number_end, token_at, is_end, is_words, text_of, HasToken, is_number, IsNumber};
 ghost use Rattle.arti_aql_lex.specs.Lexed.{lexed, ahead, fault, before, Takes};
 
 use crate::literal::{bytes_from, literal_end};
@@ -234,6 +234,7 @@ impl<'a> Lexer<'a> {
         requires { HasToken self.now.text token.now }
         ensures ok { OnOk result (out.new.items ≡ out.old.items ++ text_of self.now.text token.now) }
         ensures utf8 { OnOk result (IsUtf8 (text_of self.now.text token.now)) }
+        ensures number { is_number token.now.kind ≡ true → IsNumber (text_of self.now.text token.now) }
         ensures err { OnErr result (out.new.items ≡ out.old.items) }
     {
         append_token(self.text, *token, out)
