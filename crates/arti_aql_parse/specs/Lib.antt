@@ -2,3 +2,6 @@ pub mod Thin
 pub mod Words
 pub mod Tree
 pub mod View
+pub mod Grammar
+pub mod Refusal
+pub mod Ahead

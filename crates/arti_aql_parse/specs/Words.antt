@@ -1,5 +1,5 @@
 -- The words that the grammar gives a meaning, after unescaping.
-use Rattle.std.specs.Prelude.{ℕ, ◌+◌, ◌-◌, ◌*◌, List, [], ◌∷◌, Bool, true, false, if◌then◌else◌, ◌==◌, ◌&&◌, not, Option, Some, None, codes, nat_eq, fold, ℤ, pos, length, nat_lt, slice_index}
+use Rattle.std.specs.Prelude.{ℕ, ◌+◌, ◌-◌, ◌*◌, List, [], ◌∷◌, Bool, true, false, if◌then◌else◌, ◌==◌, ◌&&◌, not, Option, Some, None, codes, nat_eq, fold, ℤ, pos, neg_ℤ, length, drop, slice_index}
 use Rattle.std.specs.Cmp.Lexicographic.{pointwise}
 use Rattle.arti_aql_parse.specs.declared.query.Op.{Op}
 use Rattle.arti_aql_parse.specs.declared.query.Op.TheVariants.{Eq, Ne, Gt, Gte, Lt, Lte, Match, Nmatch, Before, Last}
@@ -60,3 +60,20 @@ is_find name = is_text name (codes "find")
 
 abbrev pub begins_with_dollar : List ℕ → Bool
 begins_with_dollar key = not (length key == 0) && (slice_index key 0 == 36)
+
+-- the number that digits write
+abbrev pub digits_value : List ℕ → ℕ
+digits_value digits = fold (λ n b. n * 10 + (b - 48)) 0 digits
+
+abbrev pub is_negative : List ℕ → Bool
+is_negative bytes = slice_index bytes 0 == 45
+
+-- the number that a token writes
+unfoldable pub number_of : List ℕ → ℤ
+number_of bytes = if is_negative bytes then neg_ℤ (pos (digits_value (drop 1 bytes))) else pos (digits_value bytes)
+
+-- the same, where it isn't negative
+unfoldable pub natural_of : List ℕ → Option ℕ
+natural_of bytes =
+    if is_negative bytes then (if digits_value (drop 1 bytes) == 0 then Some 0 else None)
+    else Some (digits_value bytes)

@@ -2,6 +2,7 @@
 #![tactic(auto)]
 
 mod fault;
+mod parser;
 mod query;
 mod thin;
 mod words;
