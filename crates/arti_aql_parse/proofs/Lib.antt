@@ -1,1 +1,2 @@
 pub mod ThinFronts
+pub mod Steps

@@ -1,5 +1,5 @@
 -- What a reader knows of the tokens that are to come.
-use Rattle.std.specs.Prelude.{◌≡◌, ℕ, List, Result, Ok, Err}
+use Rattle.std.specs.Prelude.{◌≡◌, ℕ, List, Bool, true, false, Result, Ok, Err}
 use Rattle.arti_aql_lex.specs.Lexed.{Lexed, finish, fault, token, Reading, ahead, before}
 use Rattle.arti_aql_lex.specs.Tokens.{HasToken}
 use Rattle.arti_aql_lex.specs.declared.token.Token.{Token}
@@ -25,6 +25,22 @@ to_come s = shown s.first s.behind
 abbrev pub IsFirst : Result Token LexFault → List ℕ → Type 0
 IsFirst (Ok t) text = HasToken text t
 IsFirst (Err f) text = Unit {0}
+
+-- a token comes first, and not the end or a fault
+abbrev pub is_token : Lexed → Bool
+is_token (finish at) = false
+is_token (fault f) = false
+is_token (token s e kind value rest) = true
+
+-- what comes behind the first token
+abbrev pub tail : Lexed → Lexed
+tail (finish at) = finish at
+tail (fault f) = fault f
+tail (token s e kind value rest) = rest
+
+-- the first token is of this kind, and stands for this
+abbrev pub Begins : TokenKind → List ℕ → Lexed → Type 0
+Begins kind value a = (s : ℕ) × (e : ℕ) × (a ≡ token s e kind value (tail a))
 
 -- a token of this kind was passed
 abbrev pub Passes : TokenKind → Lexed → Lexed → Type 0

@@ -1,15 +1,17 @@
 //! The tokens of a text, one ahead.
-ghost use Rattle.std.specs.Prelude.{◌≡◌, ◌≢◌, ◌^◌, ◌<◌, length, Some, IfOk, IfErr, OnOk, string_bytes, true, IsTrue, ◌↔◌};
+ghost use Rattle.std.specs.Prelude.{◌≡◌, ◌≢◌, ◌^◌, ◌<◌, length, Some, IfOk, IfErr, OnOk, string_bytes, true, false, Ok, IsTrue, ◌↔◌};
 ghost use Rattle.arti_aql_lex.specs.Lexed as rows;
-ghost use Rattle.arti_aql_parse.specs.Refusal.{kind_at, wrong, RefusesQuery, is_finish};
-ghost use Rattle.arti_aql_parse.specs.Ahead.{to_come, Passes, PassesValue, Else};
+ghost use Rattle.arti_aql_parse.specs.Refusal.{kind_at, wrong};
+ghost use Rattle.arti_aql_parse.specs.Ahead.{to_come, is_token, tail, Begins, Passes, PassesValue, Else};
+ghost use Rattle.arti_aql_lex.specs.Tokens.{is_end, is_number, IsNumber};
+ghost use Rattle.arti_aql_lex.specs.declared.token.TokenKind.TheVariants.{Comma};
+ghost use Rattle.arti_rows.specs.declared.refusal.What.TheVariants.{CommaOrClose};
 
 use crate::fault::ParseFault;
 use arti_aql_lex::{LexFault, Lexer, Token, TokenKind};
-use arti_rows::What;
+use arti_rows::{Text, What};
 use std::alloc::Global;
 use std::marker::Model;
-use std::str;
 
 /// The tokens that are to come.
 #[derive(Drop)]
@@ -57,5 +59,73 @@ impl<'a> Parser<'a> {
             Ok(token) => ParseFault::Expected(token.start, part),
             Err(fault) => ParseFault::Lex(fault),
         }
+    }
+
+    /// Passes the first token.
+    pub fn pass(&mut self)
+        requires { is_token (to_come self.old) ≡ true }
+        ensures { to_come self.new ≡ tail (to_come self.old) }
+    {
+        self.first = self.lexer.next();
+    }
+
+    /// Passes a token of a kind, where a part should begin.
+    pub fn take(&mut self, kind: TokenKind, part: What) -> Result<(), ParseFault>
+        requires { is_end kind ≡ false }
+        ensures ok { OnOk result (Passes kind (to_come self.old) (to_come self.new)) }
+        ensures err { IfErr result (λ f. (f ≡ wrong part (to_come self.old)) × (kind_at (to_come self.old) ≢ Some kind)) }
+    {
+        if !self.is_at(kind) {
+            return Err(self.refusal(part));
+        }
+        self.pass();
+        Ok(())
+    }
+
+    /// What the first token stands for, where that is of a kind; a part should begin there.
+    pub fn value(&self, alloc: Global, kind: TokenKind, part: What) -> Result<Text, ParseFault>
+        requires { is_end kind ≡ false }
+        ensures ok { IfOk result (λ text. Begins kind text (to_come self.now)) }
+        ensures number { is_number kind ≡ true → IfOk result (λ text. IsNumber text) }
+        ensures err { IfErr result (λ f. Else f (λ g. (g ≡ wrong part (to_come self.now)) × (kind_at (to_come self.now) ≢ Some kind))) }
+    {
+        if !self.is_at(kind) {
+            return Err(self.refusal(part));
+        }
+        let Ok(token) = self.first else {
+            unreachable!();
+        };
+        let mut bytes = Vec::new(alloc);
+        self.lexer.text_of(&token, &mut bytes)?;
+        match String::from_utf8(bytes) {
+            Ok(text) => Ok(Text::from_string(text)),
+            Err(_) => unreachable!(),
+        }
+    }
+
+    /// The same, and passes the token.
+    pub fn take_value(&mut self, alloc: Global, kind: TokenKind, part: What) -> Result<Text, ParseFault>
+        requires { is_end kind ≡ false }
+        ensures ok { IfOk result (λ text. PassesValue kind text (to_come self.old) (to_come self.new)) }
+        ensures err { IfErr result (λ f. Else f (λ g. (g ≡ wrong part (to_come self.old)) × (kind_at (to_come self.old) ≢ Some kind))) }
+    {
+        let text = self.value(alloc, kind, part)?;
+        self.pass();
+        Ok(text)
+    }
+
+    /// Passes a comma, or the mark that closes a row; says which.
+    pub fn more(&mut self, close: TokenKind) -> Result<bool, ParseFault>
+        requires { is_end close ≡ false }
+        ensures more { result ≡ Ok true → Passes Comma (to_come self.old) (to_come self.new) }
+        ensures end { result ≡ Ok false → Passes close (to_come self.old) (to_come self.new) }
+        ensures err { IfErr result (λ f. (f ≡ wrong CommaOrClose (to_come self.old)) × (kind_at (to_come self.old) ≢ Some Comma) × (kind_at (to_come self.old) ≢ Some close)) }
+    {
+        if self.is_at(TokenKind::Comma) {
+            self.pass();
+            return Ok(true);
+        }
+        self.take(close, What::CommaOrClose)?;
+        Ok(false)
     }
 }
