@@ -1,12 +1,13 @@
 -- What a reader knows of the tokens that are to come.
-use Rattle.std.specs.Prelude.{◌≡◌, ℕ, List, Bool, true, false, Result, Ok, Err}
+use Rattle.std.specs.Prelude.{◌≡◌, List, ℕ, Result, Ok, Err, Option, Some, None}
 use Rattle.arti_aql_lex.specs.Lexed.{Lexed, finish, fault, token, Reading, ahead, before}
 use Rattle.arti_aql_lex.specs.Tokens.{HasToken}
 use Rattle.arti_aql_lex.specs.declared.token.Token.{Token}
-use Rattle.arti_aql_lex.specs.declared.token.TokenKind.{TokenKind}
 use Rattle.arti_aql_lex.specs.declared.token.LexFault.{LexFault}
+use Rattle.arti_aql_parse.specs.Front.{tail, is_token, literal_at}
 use Rattle.arti_aql_parse.specs.declared.fault.ParseFault.{ParseFault}
 use Rattle.arti_aql_parse.specs.declared.fault.ParseFault.TheVariants.{Memory, QueryTooLong, Lex, Expected, TooDeep}
+use Rattle.arti_aql_parse.specs.declared.query.Lit.{Lit}
 
 -- the tokens to come, of which the first was read
 abbrev pub shown : Result Token LexFault → Reading → Lexed
@@ -26,29 +27,10 @@ abbrev pub IsFirst : Result Token LexFault → List ℕ → Type 0
 IsFirst (Ok t) text = HasToken text t
 IsFirst (Err f) text = Unit {0}
 
--- a token comes first, and not the end or a fault
-abbrev pub is_token : Lexed → Bool
-is_token (finish at) = false
-is_token (fault f) = false
-is_token (token s e kind value rest) = true
-
--- what comes behind the first token
-abbrev pub tail : Lexed → Lexed
-tail (finish at) = finish at
-tail (fault f) = fault f
-tail (token s e kind value rest) = rest
-
--- the first token is of this kind, and stands for this
-abbrev pub Begins : TokenKind → List ℕ → Lexed → Type 0
-Begins kind value a = (s : ℕ) × (e : ℕ) × (a ≡ token s e kind value (tail a))
-
--- a token of this kind was passed
-abbrev pub Passes : TokenKind → Lexed → Lexed → Type 0
-Passes kind old new = (s : ℕ) × (e : ℕ) × (value : List ℕ) × (old ≡ token s e kind value new)
-
--- the same, and what it stands for
-abbrev pub PassesValue : TokenKind → List ℕ → Lexed → Lexed → Type 0
-PassesValue kind value old new = (s : ℕ) × (e : ℕ) × (old ≡ token s e kind value new)
+-- a literal was passed, or none stands there
+abbrev pub TakesLiteral : Option Lit → Lexed → Lexed → Type 0
+TakesLiteral (Some x) old new = (literal_at old ≡ Some x) × (new ≡ tail old)
+TakesLiteral None old new = (literal_at old ≡ None) × (new ≡ old)
 
 -- memory ran out, or this holds of the refusal
 abbrev pub Else : ParseFault → (ParseFault → Type 0) → Type 0

@@ -1,14 +1,13 @@
 -- The grammar of a query, over the tokens of its text. Each relation says that tokens begin with a part, what the part is,
 -- and which tokens follow it. The number is how many braces and brackets may still be opened.
-use Rattle.std.specs.Prelude.{◌≡◌, ◌≢◌, ℕ, suc, List, [], ◌∷◌, ◌++◌, Bool, true, false, if◌then◌else◌, Option, Some, None, is_none}
+use Rattle.std.specs.Prelude.{◌≡◌, ℕ, suc, List, [], ◌∷◌, ◌++◌, Bool, true, false, if◌then◌else◌, Option, Some, None, is_none}
 use Rattle.arti_aql_lex.specs.Lexed.{Lexed, finish, fault, token}
 use Rattle.arti_aql_lex.specs.declared.token.TokenKind.{TokenKind}
 use Rattle.arti_aql_lex.specs.declared.token.TokenKind.TheVariants.{Name, Words, Number, Dot, Open, Close, ObjectOpen, ObjectClose, ListOpen, ListClose, Colon, Comma, End}
 use Rattle.arti_aql_parse.specs.Words as word
+use Rattle.arti_aql_parse.specs.Front.{kind_at, first_value, tail, literal_at}
 use Rattle.arti_aql_parse.specs.Tree.{PlainMember, tests, group, Members, no_members, member, Objects, no_objects, object, Suffixes, PlainQuery}
 use Rattle.arti_aql_parse.specs.declared.query.Lit.{Lit}
-use Rattle.arti_aql_parse.specs.declared.query.Lit.TheVariants as lit
-use Rattle.arti_aql_parse.specs.declared.query.Op.{Op}
 use Rattle.arti_aql_parse.specs.declared.query.Op.TheVariants.{Eq}
 use Rattle.arti_aql_parse.specs.declared.query.Test.{Test}
 use Rattle.arti_aql_parse.specs.declared.query.Sort.{Sort}
@@ -16,114 +15,135 @@ use Rattle.arti_aql_parse.specs.declared.words.Group.{Group}
 use Rattle.arti_aql_parse.specs.declared.words.Suffix.{Suffix}
 use Rattle.arti_aql_parse.specs.declared.words.Suffix.TheVariants as suffix
 
--- the literal that a token is
-abbrev pub literal_of : TokenKind → List ℕ → Option Lit
-literal_of Words value = Some (lit.Words value)
-literal_of Number value = Some (lit.Number (word.number_of value))
-literal_of Name value = if word.is_null value then Some lit.Null else None
-literal_of _ value = None
+-- a mark of this kind stands at the front, and these tokens behind it
+pub record Mark (kind : TokenKind) (a b : Lexed) : Type 0 where
+  pub here : kind_at a ≡ Some kind
+  pub rest : b ≡ tail a
 
 -- `text`
-pub data ReadsText : Lexed → List ℕ → Lexed → Type 0 where
-  text : {s e : ℕ} {value : List ℕ} {rest : Lexed} → ReadsText (token s e Words value rest) value rest
+pub record ReadsText (a : Lexed) (x : List ℕ) (b : Lexed) : Type 0 where
+  pub here : kind_at a ≡ Some Words
+  pub value : x ≡ first_value a
+  pub rest : b ≡ tail a
 
 -- `text , text .. close`
 pub data ReadsTexts (close : TokenKind) : Lexed → List (List ℕ) → Lexed → Type 0 where
-  last_text : {a : Lexed} {x value : List ℕ} {s e : ℕ} {rest : Lexed} → ReadsText a x (token s e close value rest) → ReadsTexts close a (x ∷ []) rest
-  more_texts : {a : Lexed} {x value : List ℕ} {s e : ℕ} {b : Lexed} {xs : List (List ℕ)} {rest : Lexed} → ReadsText a x (token s e Comma value b) → ReadsTexts close b xs rest → ReadsTexts close a (x ∷ xs) rest
+  last_text : {a b c : Lexed} {x : List ℕ} → ReadsText a x b → Mark close b c → ReadsTexts close a (x ∷ []) c
+  more_texts : {a b c d : Lexed} {x : List ℕ} {xs : List (List ℕ)} → ReadsText a x b → Mark Comma b c → ReadsTexts close c xs d → ReadsTexts close a (x ∷ xs) d
 
 -- `"operator" : literal`
-pub data ReadsTest : Lexed → Test → Lexed → Type 0 where
-  test : {s e s' e' s'' e'' : ℕ} {name value' value : List ℕ} {kind : TokenKind} {op : Op} {literal : Lit} {rest : Lexed}
-      → word.op_of name ≡ Some op → literal_of kind value ≡ Some literal
-      → ReadsTest (token s e Words name (token s' e' Colon value' (token s'' e'' kind value rest))) (record { op = op; value = literal }) rest
+pub record ReadsTest (a : Lexed) (x : Test) (b : Lexed) : Type 0 where
+  pub here : kind_at a ≡ Some Words
+  pub operator : word.op_of (first_value a) ≡ Some x.op
+  pub colon : kind_at (tail a) ≡ Some Colon
+  pub literal : literal_at (tail (tail a)) ≡ Some x.value
+  pub rest : b ≡ tail (tail (tail a))
 
 -- `test , test .. }`
 pub data ReadsTests : Lexed → List Test → Lexed → Type 0 where
-  last_test : {a : Lexed} {x : Test} {value : List ℕ} {s e : ℕ} {rest : Lexed} → ReadsTest a x (token s e ObjectClose value rest) → ReadsTests a (x ∷ []) rest
-  more_tests : {a : Lexed} {x : Test} {value : List ℕ} {s e : ℕ} {b : Lexed} {xs : List Test} {rest : Lexed} → ReadsTest a x (token s e Comma value b) → ReadsTests b xs rest → ReadsTests a (x ∷ xs) rest
+  last_test : {a b c : Lexed} {x : Test} → ReadsTest a x b → Mark ObjectClose b c → ReadsTests a (x ∷ []) c
+  more_tests : {a b c d : Lexed} {x : Test} {xs : List Test} → ReadsTest a x b → Mark Comma b c → ReadsTests c xs d → ReadsTests a (x ∷ xs) d
+
+-- `"key" :`
+pub record ReadsKey (a : Lexed) (key : List ℕ) (b : Lexed) : Type 0 where
+  pub here : kind_at a ≡ Some Words
+  pub value : key ≡ first_value a
+  pub colon : kind_at (tail a) ≡ Some Colon
+  pub rest : b ≡ tail (tail a)
 
 -- a text that may stand for a field
-abbrev pub IsField : List ℕ → Type 0
-IsField key = (word.group_of key ≡ None) × (word.begins_with_dollar key ≡ false)
+pub record IsField (key : List ℕ) : Type 0 where
+  pub plain : word.group_of key ≡ None
+  pub other : word.begins_with_dollar key ≡ false
 
 mutual
   -- `{ member , member .. }`
   pub data ReadsObject : ℕ → Lexed → Members → Lexed → Type 0 where
-    no_member : {n s e s' e' : ℕ} {value value' : List ℕ} {rest : Lexed} → ReadsObject (suc n) (token s e ObjectOpen value (token s' e' ObjectClose value' rest)) no_members rest
-    some_members : {n s e : ℕ} {value : List ℕ} {a : Lexed} {ms : Members} {rest : Lexed} → ReadsMembers n a ms rest → ReadsObject (suc n) (token s e ObjectOpen value a) ms rest
+    no_member : {n : ℕ} {a b c : Lexed} → Mark ObjectOpen a b → Mark ObjectClose b c → ReadsObject (suc n) a no_members c
+    some_members : {n : ℕ} {a b c : Lexed} {ms : Members} → Mark ObjectOpen a b → ReadsMembers n b ms c → ReadsObject (suc n) a ms c
 
   -- `member , member .. }`
   pub data ReadsMembers : ℕ → Lexed → Members → Lexed → Type 0 where
-    last_member : {n s e : ℕ} {a : Lexed} {m : PlainMember} {value : List ℕ} {rest : Lexed} → ReadsMember n a m (token s e ObjectClose value rest) → ReadsMembers n a (member m no_members) rest
-    more_members : {n s e : ℕ} {a : Lexed} {m : PlainMember} {value : List ℕ} {b : Lexed} {ms : Members} {rest : Lexed} → ReadsMember n a m (token s e Comma value b) → ReadsMembers n b ms rest → ReadsMembers n a (member m ms) rest
+    last_member : {n : ℕ} {a b c : Lexed} {m : PlainMember} → ReadsMember n a m b → Mark ObjectClose b c → ReadsMembers n a (member m no_members) c
+    more_members : {n : ℕ} {a b c d : Lexed} {m : PlainMember} {ms : Members} → ReadsMember n a m b → Mark Comma b c → ReadsMembers n c ms d → ReadsMembers n a (member m ms) d
 
   -- `"$and" : [ object , object .. ]`, `"field" : literal` or `"field" : { test , test .. }`
   pub data ReadsMember : ℕ → Lexed → PlainMember → Lexed → Type 0 where
-    list : {n s e s' e' s'' e'' : ℕ} {key value value' : List ℕ} {join : Group} {a : Lexed} {os : Objects} {rest : Lexed} → word.group_of key ≡ Some join → ReadsObjects n ListClose a os rest
-        → ReadsMember (suc n) (token s e Words key (token s' e' Colon value (token s'' e'' ListOpen value' a))) (group join os) rest
-    equals : {n s e s' e' s'' e'' : ℕ} {key value value' : List ℕ} {kind : TokenKind} {literal : Lit} {rest : Lexed} → IsField key → literal_of kind value' ≡ Some literal
-        → ReadsMember n (token s e Words key (token s' e' Colon value (token s'' e'' kind value' rest))) (tests key (record { op = Eq; value = literal } ∷ [])) rest
-    compares : {n s e s' e' s'' e'' : ℕ} {key value value' : List ℕ} {a : Lexed} {ts : List Test} {rest : Lexed} → IsField key → ReadsTests a ts rest
-        → ReadsMember (suc n) (token s e Words key (token s' e' Colon value (token s'' e'' ObjectOpen value' a))) (tests key ts) rest
+    list : {n : ℕ} {a b c d : Lexed} {key : List ℕ} {join : Group} {os : Objects} → ReadsKey a key b → word.group_of key ≡ Some join → Mark ListOpen b c → ReadsObjects n ListClose c os d → ReadsMember (suc n) a (group join os) d
+    equals : {n : ℕ} {a b c : Lexed} {key : List ℕ} {x : Lit} → ReadsKey a key b → IsField key → literal_at b ≡ Some x → c ≡ tail b → ReadsMember n a (tests key (record { op = Eq; value = x } ∷ [])) c
+    compares : {n : ℕ} {a b c d : Lexed} {key : List ℕ} {xs : List Test} → ReadsKey a key b → IsField key → Mark ObjectOpen b c → ReadsTests c xs d → ReadsMember (suc n) a (tests key xs) d
 
   -- `object , object .. close`
   pub data ReadsObjects : ℕ → TokenKind → Lexed → Objects → Lexed → Type 0 where
-    last_object : {n s e : ℕ} {close : TokenKind} {a : Lexed} {o : Members} {value : List ℕ} {rest : Lexed} → ReadsObject n a o (token s e close value rest) → ReadsObjects n close a (object o no_objects) rest
-    more_objects : {n s e : ℕ} {close : TokenKind} {a : Lexed} {o : Members} {value : List ℕ} {b : Lexed} {os : Objects} {rest : Lexed} → ReadsObject n a o (token s e Comma value b) → ReadsObjects n close b os rest
-        → ReadsObjects n close a (object o os) rest
+    last_object : {n : ℕ} {close : TokenKind} {a b c : Lexed} {o : Members} → ReadsObject n a o b → Mark close b c → ReadsObjects n close a (object o no_objects) c
+    more_objects : {n : ℕ} {close : TokenKind} {a b c d : Lexed} {o : Members} {os : Objects} → ReadsObject n a o b → Mark Comma b c → ReadsObjects n close c os d → ReadsObjects n close a (object o os) d
 
--- the parts before the brace or bracket of a sort's list, and behind it: `{ "$asc" : [ text , text .. ] } )`
-pub data ReadsSort : Lexed → Sort → Lexed → Type 0 where
-  sort : {s e s' e' s'' e'' t d t' d' t'' d'' : ℕ} {value order value' value'' v v' : List ℕ} {descending : Bool} {a : Lexed} {xs : List (List ℕ)} {rest : Lexed}
-      → word.order_of order ≡ Some descending → ReadsTexts ListClose a xs (token t d ObjectClose v (token t' d' Close v' rest))
-      → ReadsSort (token s e ObjectOpen value (token s' e' Words order (token s'' e'' Colon value' (token t'' d'' ListOpen value'' a)))) (record { descending = descending; fields = xs }) rest
+-- `{ "$asc" : [`
+pub record ReadsOrder (a : Lexed) (descending : Bool) (b : Lexed) : Type 0 where
+  pub brace : kind_at a ≡ Some ObjectOpen
+  pub words : kind_at (tail a) ≡ Some Words
+  pub order : word.order_of (first_value (tail a)) ≡ Some descending
+  pub colon : kind_at (tail (tail a)) ≡ Some Colon
+  pub bracket : kind_at (tail (tail (tail a))) ≡ Some ListOpen
+  pub rest : b ≡ tail (tail (tail (tail a)))
+
+-- `{ "$asc" : [ text , text .. ] } )`
+pub record ReadsSort (a : Lexed) (x : Sort) (e : Lexed) : Type 0 where
+  pub fields : Lexed
+  pub brace : Lexed
+  pub close : Lexed
+  pub order : ReadsOrder a x.descending fields
+  pub texts : ReadsTexts ListClose fields x.fields brace
+  pub end_brace : Mark ObjectClose brace close
+  pub end : Mark Close close e
 
 -- `number )`
-pub data ReadsNatural : Lexed → ℕ → Lexed → Type 0 where
-  natural : {s e s' e' n : ℕ} {digits value : List ℕ} {rest : Lexed} → word.natural_of digits ≡ Some n → ReadsNatural (token s e Number digits (token s' e' Close value rest)) n rest
+pub record ReadsNatural (a : Lexed) (n : ℕ) (b : Lexed) : Type 0 where
+  pub here : kind_at a ≡ Some Number
+  pub value : word.natural_of (first_value a) ≡ Some n
+  pub end : kind_at (tail a) ≡ Some Close
+  pub rest : b ≡ tail (tail a)
 
--- `true )`
-pub data ReadsTruth : Lexed → Bool → Lexed → Type 0 where
-  truth : {s e s' e' : ℕ} {name value : List ℕ} {yes : Bool} {rest : Lexed} → word.truth_of name ≡ Some yes → ReadsTruth (token s e Name name (token s' e' Close value rest)) yes rest
+-- `true )` or `false )`
+pub record ReadsTruth (a : Lexed) (x : Bool) (b : Lexed) : Type 0 where
+  pub here : kind_at a ≡ Some Name
+  pub value : word.truth_of (first_value a) ≡ Some x
+  pub end : kind_at (tail a) ≡ Some Close
+  pub rest : b ≡ tail (tail a)
 
--- the suffix of this name, where it was not given before
-abbrev pub fresh : Suffixes → Suffix → Bool
-fresh s suffix.Include = is_none s.include
-fresh s suffix.Sort = is_none s.sort
-fresh s suffix.Offset = is_none s.offset
-fresh s suffix.Limit = is_none s.limit
-fresh s suffix.Distinct = is_none s.distinct
+-- whether a suffix was not given before
+abbrev pub is_fresh : Suffixes → Suffix → Bool
+is_fresh given suffix.Include = is_none given.include
+is_fresh given suffix.Sort = is_none given.sort
+is_fresh given suffix.Offset = is_none given.offset
+is_fresh given suffix.Limit = is_none given.limit
+is_fresh given suffix.Distinct = is_none given.distinct
 
-abbrev pub if_fresh : Suffixes → Option Suffix → Option Suffix
-if_fresh s (Some x) = if fresh s x then Some x else None
-if_fresh s None = None
+-- `name (`, the name of a suffix that was not given before
+pub record ReadsName (given : Suffixes) (a : Lexed) (x : Suffix) (b : Lexed) : Type 0 where
+  pub here : kind_at a ≡ Some Name
+  pub name : word.suffix_of (first_value a) ≡ Some x
+  pub fresh : is_fresh given x ≡ true
+  pub open_mark : kind_at (tail a) ≡ Some Open
+  pub rest : b ≡ tail (tail a)
 
-abbrev pub suffix_named : Suffixes → List ℕ → Option Suffix
-suffix_named s name = if_fresh s (word.suffix_of name)
-
--- `include ( text , text .. )` and its kind, behind their dot, each once
+-- one suffix, behind its dot
 pub data ReadsSuffix : Suffixes → Lexed → Suffixes → Lexed → Type 0 where
-  include : {given : Suffixes} {s e s' e' : ℕ} {name value : List ℕ} {a : Lexed} {xs : List (List ℕ)} {rest : Lexed} → suffix_named given name ≡ Some suffix.Include → ReadsTexts Close a xs rest
-      → ReadsSuffix given (token s e Name name (token s' e' Open value a)) (record given { include = Some xs }) rest
-  sorted : {given : Suffixes} {s e s' e' : ℕ} {name value : List ℕ} {a : Lexed} {x : Sort} {rest : Lexed} → suffix_named given name ≡ Some suffix.Sort → ReadsSort a x rest
-      → ReadsSuffix given (token s e Name name (token s' e' Open value a)) (record given { sort = Some x }) rest
-  offset : {given : Suffixes} {s e s' e' : ℕ} {name value : List ℕ} {a : Lexed} {n : ℕ} {rest : Lexed} → suffix_named given name ≡ Some suffix.Offset → ReadsNatural a n rest
-      → ReadsSuffix given (token s e Name name (token s' e' Open value a)) (record given { offset = Some n }) rest
-  limit : {given : Suffixes} {s e s' e' : ℕ} {name value : List ℕ} {a : Lexed} {n : ℕ} {rest : Lexed} → suffix_named given name ≡ Some suffix.Limit → ReadsNatural a n rest
-      → ReadsSuffix given (token s e Name name (token s' e' Open value a)) (record given { limit = Some n }) rest
-  distinct : {given : Suffixes} {s e s' e' : ℕ} {name value : List ℕ} {a : Lexed} {x : Bool} {rest : Lexed} → suffix_named given name ≡ Some suffix.Distinct → ReadsTruth a x rest
-      → ReadsSuffix given (token s e Name name (token s' e' Open value a)) (record given { distinct = Some x }) rest
+  include : {given : Suffixes} {a b c : Lexed} {xs : List (List ℕ)} → ReadsName given a suffix.Include b → ReadsTexts Close b xs c → ReadsSuffix given a (record given { include = Some xs }) c
+  sort : {given : Suffixes} {a b c : Lexed} {x : Sort} → ReadsName given a suffix.Sort b → ReadsSort b x c → ReadsSuffix given a (record given { sort = Some x }) c
+  offset : {given : Suffixes} {a b c : Lexed} {n : ℕ} → ReadsName given a suffix.Offset b → ReadsNatural b n c → ReadsSuffix given a (record given { offset = Some n }) c
+  limit : {given : Suffixes} {a b c : Lexed} {n : ℕ} → ReadsName given a suffix.Limit b → ReadsNatural b n c → ReadsSuffix given a (record given { limit = Some n }) c
+  distinct : {given : Suffixes} {a b c : Lexed} {x : Bool} → ReadsName given a suffix.Distinct b → ReadsTruth b x c → ReadsSuffix given a (record given { distinct = Some x }) c
 
 -- suffixes in any order, each once, up to the end of the text
 pub data ReadsSuffixes : Suffixes → Lexed → Suffixes → Type 0 where
-  no_more : {given : Suffixes} {at : ℕ} → ReadsSuffixes given (finish at) given
-  one_more : {given next all : Suffixes} {s e : ℕ} {value : List ℕ} {a b : Lexed} → ReadsSuffix given a next b → ReadsSuffixes next b all → ReadsSuffixes given (token s e Dot value a) all
+  no_more : {given : Suffixes} {a : Lexed} → kind_at a ≡ Some End → ReadsSuffixes given a given
+  one_more : {given next all : Suffixes} {a b c : Lexed} → Mark Dot a b → ReadsSuffix given b next c → ReadsSuffixes next c all → ReadsSuffixes given a all
 
 -- `name . name .. find (`, with the names before `find`
 pub data ReadsHead : Lexed → List (List ℕ) → Lexed → Type 0 where
-  find : {s e s' e' : ℕ} {name value : List ℕ} {rest : Lexed} → word.is_find name ≡ true → ReadsHead (token s e Name name (token s' e' Open value rest)) [] rest
-  part : {s e s' e' : ℕ} {name value : List ℕ} {a : Lexed} {names : List (List ℕ)} {rest : Lexed} → ReadsHead a names rest → ReadsHead (token s e Name name (token s' e' Dot value a)) (name ∷ names) rest
+  find : {a b : Lexed} → kind_at a ≡ Some Name → word.is_find (first_value a) ≡ true → Mark Open (tail a) b → ReadsHead a [] b
+  part : {a b c : Lexed} {x : List ℕ} {xs : List (List ℕ)} → kind_at a ≡ Some Name → x ≡ first_value a → Mark Dot (tail a) b → ReadsHead b xs c → ReadsHead a (x ∷ xs) c
 
 -- the names of a domain, with dots between them
 abbrev pub joined : List (List ℕ) → List ℕ
@@ -140,7 +160,6 @@ most_levels = 32
 
 -- a whole query
 pub data ReadsQuery : Lexed → PlainQuery → Type 0 where
-  no_criteria : {a b : Lexed} {s e : ℕ} {value : List ℕ} {names : List (List ℕ)} {x : Suffixes} → ReadsHead a names (token s e Close value b) → ReadsSuffixes no_suffixes b x
-      → ReadsQuery a (record { domain = joined names; find = no_objects; suffixes = x })
+  no_criteria : {a b c : Lexed} {names : List (List ℕ)} {x : Suffixes} → ReadsHead a names b → Mark Close b c → ReadsSuffixes no_suffixes c x → ReadsQuery a (record { domain = joined names; find = no_objects; suffixes = x })
   criteria : {a b c : Lexed} {names : List (List ℕ)} {os : Objects} {x : Suffixes} → ReadsHead a names b → ReadsObjects most_levels Close b os c → ReadsSuffixes no_suffixes c x
       → ReadsQuery a (record { domain = joined names; find = os; suffixes = x })

@@ -1,5 +1,5 @@
 -- The words that the grammar gives a meaning, after unescaping.
-use Rattle.std.specs.Prelude.{ℕ, ◌+◌, ◌-◌, ◌*◌, List, [], ◌∷◌, Bool, true, false, if◌then◌else◌, ◌==◌, ◌&&◌, not, Option, Some, None, codes, nat_eq, fold, ℤ, pos, neg_ℤ, length, drop, slice_index}
+use Rattle.std.specs.Prelude.{ℕ, ◌+◌, ◌-◌, ◌*◌, List, [], ◌∷◌, Bool, true, false, if◌then◌else◌, ◌==◌, ◌&&◌, not, Option, Some, None, is_some, ◌||◌, codes, nat_eq, fold, ℤ, pos, neg_ℤ, length, drop, slice_index}
 use Rattle.std.specs.Cmp.Lexicographic.{pointwise}
 use Rattle.arti_aql_parse.specs.declared.query.Op.{Op}
 use Rattle.arti_aql_parse.specs.declared.query.Op.TheVariants.{Eq, Ne, Gt, Gte, Lt, Lte, Match, Nmatch, Before, Last}
@@ -77,3 +77,7 @@ unfoldable pub natural_of : List ℕ → Option ℕ
 natural_of bytes =
     if is_negative bytes then (if digits_value (drop 1 bytes) == 0 then Some 0 else None)
     else Some (digits_value bytes)
+
+-- a text that may stand before a member's colon
+abbrev pub is_key : List ℕ → Bool
+is_key key = is_some (group_of key) || not (begins_with_dollar key)

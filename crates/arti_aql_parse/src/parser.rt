@@ -1,16 +1,19 @@
 //! The tokens of a text, one ahead.
-ghost use Rattle.std.specs.Prelude.{◌≡◌, ◌≢◌, ◌^◌, ◌<◌, length, Some, IfOk, IfErr, OnOk, string_bytes, true, false, Ok, IsTrue, ◌↔◌};
+ghost use Rattle.std.specs.Prelude.{◌≡◌, ◌≢◌, ◌^◌, ◌<◌, ◌↔◌, IsTrue, true, false, length, Some, IfOk, IfErr, OnOk};
+ghost use Rattle.std.specs.Bool.{MatchBool};
 ghost use Rattle.arti_aql_lex.specs.Lexed as rows;
-ghost use Rattle.arti_aql_parse.specs.Refusal.{kind_at, wrong};
-ghost use Rattle.arti_aql_parse.specs.Ahead.{to_come, is_token, tail, Begins, Passes, PassesValue, Else};
-ghost use Rattle.arti_aql_lex.specs.Tokens.{is_end, is_number, IsNumber};
-ghost use Rattle.arti_aql_lex.specs.declared.token.TokenKind.TheVariants.{Comma};
-ghost use Rattle.arti_rows.specs.declared.refusal.What.TheVariants.{CommaOrClose};
+ghost use Rattle.arti_aql_lex.specs.Tokens.{is_end, IsNumber};
+ghost use Rattle.arti_aql_lex.specs.declared.token.TokenKind.TheVariants.{Comma, Number, Words};
+ghost use Rattle.arti_rows.specs.declared.refusal.What.TheVariants as what;
+ghost use Rattle.arti_aql_parse.specs.Front.{kind_at, first_value, tail, is_token, wrong};
+ghost use Rattle.arti_aql_parse.specs.Grammar.{Mark, ReadsText};
+ghost use Rattle.arti_aql_parse.specs.Refusal.{NoneFollows};
+ghost use Rattle.arti_aql_parse.specs.Ahead.{to_come, Else};
 
 use crate::fault::ParseFault;
 use arti_aql_lex::{LexFault, Lexer, Token, TokenKind};
 use arti_rows::{Text, What};
-use std::alloc::Global;
+use std::alloc::{AllocError, Global};
 use std::marker::Model;
 
 /// The tokens that are to come.
@@ -61,37 +64,12 @@ impl<'a> Parser<'a> {
         }
     }
 
-    /// Passes the first token.
-    pub fn pass(&mut self)
-        requires { is_token (to_come self.old) ≡ true }
-        ensures { to_come self.new ≡ tail (to_come self.old) }
+    /// What the first token stands for.
+    pub fn text(&self, alloc: Global) -> Result<Text, AllocError>
+        requires { is_token (to_come self.now) ≡ true }
+        ensures value { IfOk result (λ text. text ≡ first_value (to_come self.now)) }
+        ensures number { kind_at (to_come self.now) ≡ Some Number → IfOk result (λ text. IsNumber text) }
     {
-        self.first = self.lexer.next();
-    }
-
-    /// Passes a token of a kind, where a part should begin.
-    pub fn take(&mut self, kind: TokenKind, part: What) -> Result<(), ParseFault>
-        requires { is_end kind ≡ false }
-        ensures ok { OnOk result (Passes kind (to_come self.old) (to_come self.new)) }
-        ensures err { IfErr result (λ f. (f ≡ wrong part (to_come self.old)) × (kind_at (to_come self.old) ≢ Some kind)) }
-    {
-        if !self.is_at(kind) {
-            return Err(self.refusal(part));
-        }
-        self.pass();
-        Ok(())
-    }
-
-    /// What the first token stands for, where that is of a kind; a part should begin there.
-    pub fn value(&self, alloc: Global, kind: TokenKind, part: What) -> Result<Text, ParseFault>
-        requires { is_end kind ≡ false }
-        ensures ok { IfOk result (λ text. Begins kind text (to_come self.now)) }
-        ensures number { is_number kind ≡ true → IfOk result (λ text. IsNumber text) }
-        ensures err { IfErr result (λ f. Else f (λ g. (g ≡ wrong part (to_come self.now)) × (kind_at (to_come self.now) ≢ Some kind))) }
-    {
-        if !self.is_at(kind) {
-            return Err(self.refusal(part));
-        }
         let Ok(token) = self.first else {
             unreachable!();
         };
@@ -103,13 +81,36 @@ impl<'a> Parser<'a> {
         }
     }
 
-    /// The same, and passes the token.
-    pub fn take_value(&mut self, alloc: Global, kind: TokenKind, part: What) -> Result<Text, ParseFault>
-        requires { is_end kind ≡ false }
-        ensures ok { IfOk result (λ text. PassesValue kind text (to_come self.old) (to_come self.new)) }
-        ensures err { IfErr result (λ f. Else f (λ g. (g ≡ wrong part (to_come self.old)) × (kind_at (to_come self.old) ≢ Some kind))) }
+    /// Passes the first token.
+    pub fn pass(&mut self)
+        requires { is_token (to_come self.old) ≡ true }
+        ensures { to_come self.new ≡ tail (to_come self.old) }
     {
-        let text = self.value(alloc, kind, part)?;
+        self.first = self.lexer.next();
+    }
+
+    /// Passes a token of a kind, where a part should begin.
+    pub fn take(&mut self, kind: TokenKind, part: What) -> Result<(), ParseFault>
+        requires { is_end kind ≡ false }
+        ensures ok { OnOk result (Mark kind (to_come self.old) (to_come self.new)) }
+        ensures err { IfErr result (λ f. (f ≡ wrong part (to_come self.old)) × (kind_at (to_come self.old) ≢ Some kind)) }
+    {
+        if !self.is_at(kind) {
+            return Err(self.refusal(part));
+        }
+        self.pass();
+        Ok(())
+    }
+
+    /// Passes a text, where one should begin.
+    pub fn take_text(&mut self, alloc: Global) -> Result<Text, ParseFault>
+        ensures ok { IfOk result (λ x. ReadsText (to_come self.old) x (to_come self.new)) }
+        ensures err { IfErr result (λ f. Else f (λ g. (g ≡ wrong what.Text (to_come self.old)) × (kind_at (to_come self.old) ≢ Some Words))) }
+    {
+        if !self.is_at(TokenKind::Words) {
+            return Err(self.refusal(What::Text));
+        }
+        let text = self.text(alloc)?;
         self.pass();
         Ok(text)
     }
@@ -117,9 +118,8 @@ impl<'a> Parser<'a> {
     /// Passes a comma, or the mark that closes a row; says which.
     pub fn more(&mut self, close: TokenKind) -> Result<bool, ParseFault>
         requires { is_end close ≡ false }
-        ensures more { result ≡ Ok true → Passes Comma (to_come self.old) (to_come self.new) }
-        ensures end { result ≡ Ok false → Passes close (to_come self.old) (to_come self.new) }
-        ensures err { IfErr result (λ f. (f ≡ wrong CommaOrClose (to_come self.old)) × (kind_at (to_come self.old) ≢ Some Comma) × (kind_at (to_come self.old) ≢ Some close)) }
+        ensures more { IfOk result (λ more. MatchBool more (Mark Comma (to_come self.old) (to_come self.new)) (Mark close (to_come self.old) (to_come self.new))) }
+        ensures err { IfErr result (NoneFollows close (to_come self.old)) }
     {
         if self.is_at(TokenKind::Comma) {
             self.pass();
