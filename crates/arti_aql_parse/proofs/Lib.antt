@@ -1,2 +1,3 @@
 pub mod ThinFronts
 pub mod Steps
+pub mod RowSteps

@@ -5,8 +5,6 @@ use Rattle.arti_aql_lex.specs.Tokens.{HasToken}
 use Rattle.arti_aql_lex.specs.declared.token.Token.{Token}
 use Rattle.arti_aql_lex.specs.declared.token.LexFault.{LexFault}
 use Rattle.arti_aql_parse.specs.Front.{tail, is_token, literal_at}
-use Rattle.arti_aql_parse.specs.declared.fault.ParseFault.{ParseFault}
-use Rattle.arti_aql_parse.specs.declared.fault.ParseFault.TheVariants.{Memory, QueryTooLong, Lex, Expected, TooDeep}
 use Rattle.arti_aql_parse.specs.declared.query.Lit.{Lit}
 
 -- the tokens to come, of which the first was read
@@ -31,11 +29,3 @@ IsFirst (Err f) text = Unit {0}
 abbrev pub TakesLiteral : Option Lit → Lexed → Lexed → Type 0
 TakesLiteral (Some x) old new = (literal_at old ≡ Some x) × (new ≡ tail old)
 TakesLiteral None old new = (literal_at old ≡ None) × (new ≡ old)
-
--- memory ran out, or this holds of the refusal
-abbrev pub Else : ParseFault → (ParseFault → Type 0) → Type 0
-Else Memory P = Unit {0}
-Else QueryTooLong P = P QueryTooLong
-Else (Lex f) P = P (Lex f)
-Else (Expected at part) P = P (Expected at part)
-Else TooDeep P = P TooDeep

@@ -1,7 +1,9 @@
 //! Query texts, read and printed.
 #![tactic(auto)]
 
+mod elements;
 mod fault;
+mod numbers;
 mod parser;
 mod query;
 mod thin;

@@ -8,7 +8,8 @@ ghost use Rattle.arti_rows.specs.declared.refusal.What.TheVariants as what;
 ghost use Rattle.arti_aql_parse.specs.Front.{kind_at, first_value, tail, is_token, wrong};
 ghost use Rattle.arti_aql_parse.specs.Grammar.{Mark, ReadsText};
 ghost use Rattle.arti_aql_parse.specs.Refusal.{NoneFollows};
-ghost use Rattle.arti_aql_parse.specs.Ahead.{to_come, Else};
+ghost use Rattle.arti_aql_parse.specs.Ahead.{to_come};
+ghost use Rattle.arti_aql_parse.specs.declared.fault.ParseFault.TheVariants.{Memory};
 
 use crate::fault::ParseFault;
 use arti_aql_lex::{LexFault, Lexer, Token, TokenKind};
@@ -105,7 +106,7 @@ impl<'a> Parser<'a> {
     /// Passes a text, where one should begin.
     pub fn take_text(&mut self, alloc: Global) -> Result<Text, ParseFault>
         ensures ok { IfOk result (λ x. ReadsText (to_come self.old) x (to_come self.new)) }
-        ensures err { IfErr result (λ f. Else f (λ g. (g ≡ wrong what.Text (to_come self.old)) × (kind_at (to_come self.old) ≢ Some Words))) }
+        ensures err { IfErr result (λ f. f ≢ Memory → (f ≡ wrong what.Text (to_come self.old)) × (kind_at (to_come self.old) ≢ Some Words)) }
     {
         if !self.is_at(TokenKind::Words) {
             return Err(self.refusal(What::Text));
