@@ -1,3 +1,5 @@
 pub mod ThinFronts
 pub mod Steps
 pub mod RowSteps
+pub mod TreeViews
+pub mod CriteriaRows

@@ -1,11 +1,12 @@
 -- Rows of parts that are read one after the other.
-use Rattle.std.proofs.Common.{◌≡◌, ◌≢◌, ℕ, zero, suc, ◌+◌, ◌-◌, ◌<◌, ◌≤◌, ◌^◌, ◌*◌, List, [], ◌∷◌, ◌++◌, Option, Some, None, refl, sym, ap, ◌∙◌, subst, arith, append_assoc, true}
+use Rattle.std.proofs.Common.{◌≡◌, ◌≢◌, ℕ, zero, suc, ◌+◌, ◌-◌, ◌<◌, ◌≤◌, ◌^◌, ◌*◌, List, [], ◌∷◌, ◌++◌, Option, Some, None, refl, sym, ap, ◌∙◌, subst, arith, append_assoc, true, false}
 use Rattle.std.proofs.lemmas.Bool.{false≢true}
 use Rattle.std.proofs.lemmas.Grind.{pow_more}
 use Rattle.arti_aql_lex.specs.Lexed.{Lexed, finish, fault, token}
 use Rattle.arti_aql_lex.specs.Tokens.{is_end}
 use Rattle.arti_aql_lex.specs.declared.token.TokenKind.{TokenKind}
 use Rattle.arti_aql_parse.specs.Front.{kind_at, tail, is_token}
+use Rattle.arti_aql_parse.proofs.Steps.{is_token_kind}
 use Rattle.arti_aql_parse.specs.declared.fault.ParseFault.{ParseFault}
 
 -- how many tokens are to come
@@ -42,3 +43,12 @@ pow_ten i (suc k) = let e : i + suc k ≡ i + k + 1 = omega arith in rw e (omega
 -- so many digits write a number below this
 pub digits_small : (v i n : ℕ) → v < 10 ^ i → i ≤ n → v < 10 ^ n
 digits_small v i n small few = let e : i + (n - i) ≡ n = omega arith in omega (arith, pow_ten i (n - i), ap (λ (k : ℕ). 10 ^ k) e)
+
+pub tail_le : (a : Lexed) → size (tail a) ≤ size a
+tail_le (finish at) = omega arith
+tail_le (fault f) = omega arith
+tail_le (token s e kind value rest) = omega arith
+
+-- a token of a kind that isn't the end takes one away
+pub front_smaller : (kind : TokenKind) (a : Lexed) → is_end kind ≡ false → kind_at a ≡ Some kind → size (tail a) < size a
+front_smaller kind a other here = size_tail a (is_token_kind kind a other here)

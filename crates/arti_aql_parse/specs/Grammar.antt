@@ -1,6 +1,6 @@
 -- The grammar of a query, over the tokens of its text. Each relation says that tokens begin with a part, what the part is,
 -- and which tokens follow it. The number is how many braces and brackets may still be opened.
-use Rattle.std.specs.Prelude.{◌≡◌, ℕ, suc, List, [], ◌∷◌, ◌++◌, Bool, true, false, if◌then◌else◌, Option, Some, None, is_none}
+use Rattle.std.specs.Prelude.{◌≡◌, ◌≢◌, ◌<◌, ◌+◌, ℕ, List, [], ◌∷◌, ◌++◌, Bool, true, false, if◌then◌else◌, Option, Some, None, is_none}
 use Rattle.arti_aql_lex.specs.Lexed.{Lexed, finish, fault, token}
 use Rattle.arti_aql_lex.specs.declared.token.TokenKind.{TokenKind}
 use Rattle.arti_aql_lex.specs.declared.token.TokenKind.TheVariants.{Name, Words, Number, Dot, Open, Close, ObjectOpen, ObjectClose, ListOpen, ListClose, Colon, Comma, End}
@@ -56,22 +56,26 @@ pub record IsField (key : List ℕ) : Type 0 where
   pub plain : word.group_of key ≡ None
   pub other : word.begins_with_dollar key ≡ false
 
+-- `literal` or `{ test , test .. }`
+pub data ReadsOperand : ℕ → Lexed → List Test → Lexed → Type 0 where
+  equals : {n : ℕ} {a b : Lexed} {x : Lit} → kind_at a ≢ Some ObjectOpen → literal_at a ≡ Some x → b ≡ tail a → ReadsOperand n a (record { op = Eq; value = x } ∷ []) b
+  compares : {n : ℕ} {a b c : Lexed} {xs : List Test} → 0 < n → Mark ObjectOpen a b → ReadsTests b xs c → ReadsOperand n a xs c
+
 mutual
   -- `{ member , member .. }`
   pub data ReadsObject : ℕ → Lexed → Members → Lexed → Type 0 where
-    no_member : {n : ℕ} {a b c : Lexed} → Mark ObjectOpen a b → Mark ObjectClose b c → ReadsObject (suc n) a no_members c
-    some_members : {n : ℕ} {a b c : Lexed} {ms : Members} → Mark ObjectOpen a b → ReadsMembers n b ms c → ReadsObject (suc n) a ms c
+    no_member : {n : ℕ} {a b c : Lexed} → 0 < n → Mark ObjectOpen a b → Mark ObjectClose b c → ReadsObject n a no_members c
+    some_members : {n m : ℕ} {a b c : Lexed} {ms : Members} → n ≡ m + 1 → Mark ObjectOpen a b → ReadsMembers m b ms c → ReadsObject n a ms c
 
   -- `member , member .. }`
   pub data ReadsMembers : ℕ → Lexed → Members → Lexed → Type 0 where
     last_member : {n : ℕ} {a b c : Lexed} {m : PlainMember} → ReadsMember n a m b → Mark ObjectClose b c → ReadsMembers n a (member m no_members) c
     more_members : {n : ℕ} {a b c d : Lexed} {m : PlainMember} {ms : Members} → ReadsMember n a m b → Mark Comma b c → ReadsMembers n c ms d → ReadsMembers n a (member m ms) d
 
-  -- `"$and" : [ object , object .. ]`, `"field" : literal` or `"field" : { test , test .. }`
+  -- `"$and" : [ object , object .. ]` or `"field" : operand`
   pub data ReadsMember : ℕ → Lexed → PlainMember → Lexed → Type 0 where
-    list : {n : ℕ} {a b c d : Lexed} {key : List ℕ} {join : Group} {os : Objects} → ReadsKey a key b → word.group_of key ≡ Some join → Mark ListOpen b c → ReadsObjects n ListClose c os d → ReadsMember (suc n) a (group join os) d
-    equals : {n : ℕ} {a b c : Lexed} {key : List ℕ} {x : Lit} → ReadsKey a key b → IsField key → literal_at b ≡ Some x → c ≡ tail b → ReadsMember n a (tests key (record { op = Eq; value = x } ∷ [])) c
-    compares : {n : ℕ} {a b c d : Lexed} {key : List ℕ} {xs : List Test} → ReadsKey a key b → IsField key → Mark ObjectOpen b c → ReadsTests c xs d → ReadsMember (suc n) a (tests key xs) d
+    list : {n m : ℕ} {a b c d : Lexed} {key : List ℕ} {join : Group} {os : Objects} → ReadsKey a key b → word.group_of key ≡ Some join → n ≡ m + 1 → Mark ListOpen b c → ReadsObjects m ListClose c os d → ReadsMember n a (group join os) d
+    field : {n : ℕ} {a b c : Lexed} {key : List ℕ} {xs : List Test} → ReadsKey a key b → IsField key → ReadsOperand n b xs c → ReadsMember n a (tests key xs) c
 
   -- `object , object .. close`
   pub data ReadsObjects : ℕ → TokenKind → Lexed → Objects → Lexed → Type 0 where

@@ -1,5 +1,5 @@
 -- Where tokens are no query, and the part that should begin there, by the cases of the grammar.
-use Rattle.std.specs.Prelude.{◌≡◌, ◌≢◌, ℕ, zero, suc, List, Bool, true, false, Option, Some, None}
+use Rattle.std.specs.Prelude.{◌≡◌, ◌≢◌, ◌<◌, ◌+◌, ℕ, List, Bool, true, false, Option, Some, None}
 use Rattle.arti_aql_lex.specs.Lexed.{Lexed}
 use Rattle.arti_aql_lex.specs.declared.token.TokenKind.{TokenKind}
 use Rattle.arti_aql_lex.specs.declared.token.TokenKind.TheVariants.{Name, Words, Number, Dot, Open, Close, ObjectOpen, ObjectClose, ListOpen, ListClose, Colon, Comma, End}
@@ -43,11 +43,16 @@ pub data RefusesKey : Lexed → ParseFault → Type 0 where
   bad_key : {a : Lexed} {f : ParseFault} → kind_at a ≡ Some Words → word.group_of (first_value a) ≡ None → word.begins_with_dollar (first_value a) ≡ true → f ≡ wrong what.Key a → RefusesKey a f
   no_key_colon : {a : Lexed} {f : ParseFault} → kind_at a ≡ Some Words → word.is_key (first_value a) ≡ true → kind_at (tail a) ≢ Some Colon → f ≡ wrong what.Colon (tail a) → RefusesKey a f
 
+pub data RefusesOperand : ℕ → Lexed → ParseFault → Type 0 where
+  no_operand : {n : ℕ} {a : Lexed} {f : ParseFault} → kind_at a ≢ Some ObjectOpen → literal_at a ≡ None → f ≡ wrong what.Operand a → RefusesOperand n a f
+  deep_tests : {n : ℕ} {a : Lexed} {f : ParseFault} → n ≡ 0 → kind_at a ≡ Some ObjectOpen → f ≡ TooDeep → RefusesOperand n a f
+  in_tests : {n : ℕ} {a b : Lexed} {f : ParseFault} → 0 < n → Mark ObjectOpen a b → RefusesTests b f → RefusesOperand n a f
+
 mutual
   pub data RefusesObject : ℕ → Lexed → ParseFault → Type 0 where
     no_object : {n : ℕ} {a : Lexed} {f : ParseFault} → kind_at a ≢ Some ObjectOpen → f ≡ wrong what.Object a → RefusesObject n a f
-    deep_object : {a : Lexed} {f : ParseFault} → kind_at a ≡ Some ObjectOpen → f ≡ TooDeep → RefusesObject zero a f
-    in_object : {n : ℕ} {a b : Lexed} {f : ParseFault} → Mark ObjectOpen a b → kind_at b ≢ Some ObjectClose → RefusesMembers n b f → RefusesObject (suc n) a f
+    deep_object : {n : ℕ} {a : Lexed} {f : ParseFault} → n ≡ 0 → kind_at a ≡ Some ObjectOpen → f ≡ TooDeep → RefusesObject n a f
+    in_object : {n m : ℕ} {a b : Lexed} {f : ParseFault} → n ≡ m + 1 → Mark ObjectOpen a b → kind_at b ≢ Some ObjectClose → RefusesMembers m b f → RefusesObject n a f
 
   pub data RefusesMembers : ℕ → Lexed → ParseFault → Type 0 where
     no_member : {n : ℕ} {a : Lexed} {f : ParseFault} → RefusesMember n a f → RefusesMembers n a f
@@ -57,11 +62,9 @@ mutual
   pub data RefusesMember : ℕ → Lexed → ParseFault → Type 0 where
     not_a_key : {n : ℕ} {a : Lexed} {f : ParseFault} → RefusesKey a f → RefusesMember n a f
     no_list : {n : ℕ} {a b : Lexed} {key : List ℕ} {join : Group} {f : ParseFault} → ReadsKey a key b → word.group_of key ≡ Some join → kind_at b ≢ Some ListOpen → f ≡ wrong what.List b → RefusesMember n a f
-    deep_list : {a b : Lexed} {key : List ℕ} {join : Group} {f : ParseFault} → ReadsKey a key b → word.group_of key ≡ Some join → kind_at b ≡ Some ListOpen → f ≡ TooDeep → RefusesMember zero a f
-    in_list : {n : ℕ} {a b c : Lexed} {key : List ℕ} {join : Group} {f : ParseFault} → ReadsKey a key b → word.group_of key ≡ Some join → Mark ListOpen b c → RefusesObjects n ListClose c f → RefusesMember (suc n) a f
-    no_operand : {n : ℕ} {a b : Lexed} {key : List ℕ} {f : ParseFault} → ReadsKey a key b → IsField key → kind_at b ≢ Some ObjectOpen → literal_at b ≡ None → f ≡ wrong what.Operand b → RefusesMember n a f
-    deep_tests : {a b : Lexed} {key : List ℕ} {f : ParseFault} → ReadsKey a key b → IsField key → kind_at b ≡ Some ObjectOpen → f ≡ TooDeep → RefusesMember zero a f
-    in_tests : {n : ℕ} {a b c : Lexed} {key : List ℕ} {f : ParseFault} → ReadsKey a key b → IsField key → Mark ObjectOpen b c → RefusesTests c f → RefusesMember (suc n) a f
+    deep_list : {n : ℕ} {a b : Lexed} {key : List ℕ} {join : Group} {f : ParseFault} → ReadsKey a key b → word.group_of key ≡ Some join → n ≡ 0 → kind_at b ≡ Some ListOpen → f ≡ TooDeep → RefusesMember n a f
+    in_list : {n m : ℕ} {a b c : Lexed} {key : List ℕ} {join : Group} {f : ParseFault} → ReadsKey a key b → word.group_of key ≡ Some join → n ≡ m + 1 → Mark ListOpen b c → RefusesObjects m ListClose c f → RefusesMember n a f
+    in_operand : {n : ℕ} {a b : Lexed} {key : List ℕ} {f : ParseFault} → ReadsKey a key b → IsField key → RefusesOperand n b f → RefusesMember n a f
 
   pub data RefusesObjects : ℕ → TokenKind → Lexed → ParseFault → Type 0 where
     not_an_object : {n : ℕ} {close : TokenKind} {a : Lexed} {f : ParseFault} → RefusesObject n a f → RefusesObjects n close a f

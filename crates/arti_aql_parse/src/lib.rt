@@ -1,6 +1,7 @@
 //! Query texts, read and printed.
 #![tactic(auto)]
 
+mod criteria;
 mod elements;
 mod fault;
 mod numbers;
