@@ -6,11 +6,12 @@ use Rattle.arti_aql_lex.specs.declared.token.TokenKind.{TokenKind}
 use Rattle.arti_aql_lex.specs.declared.token.TokenKind.TheVariants.{Name, Words, Number, Dot, Open, Close, ObjectOpen, ObjectClose, ListOpen, ListClose, Colon, Comma, End}
 use Rattle.arti_aql_parse.specs.Words as word
 use Rattle.arti_aql_parse.specs.Front.{kind_at, first_value, tail, literal_at}
-use Rattle.arti_aql_parse.specs.Tree.{PlainMember, tests, group, Members, no_members, member, Objects, no_objects, object, Suffixes, PlainQuery}
+use Rattle.arti_aql_parse.specs.Tree.{PlainMember, tests, group, Members, no_members, member, Objects, no_objects, object, PlainQuery}
 use Rattle.arti_aql_parse.specs.declared.query.Lit.{Lit}
 use Rattle.arti_aql_parse.specs.declared.query.Op.TheVariants.{Eq}
 use Rattle.arti_aql_parse.specs.declared.query.Test.{Test}
 use Rattle.arti_aql_parse.specs.declared.query.Sort.{Sort}
+use Rattle.arti_aql_parse.specs.declared.query.Suffixes.{Suffixes}
 use Rattle.arti_aql_parse.specs.declared.words.Group.{Group}
 use Rattle.arti_aql_parse.specs.declared.words.Suffix.{Suffix}
 use Rattle.arti_aql_parse.specs.declared.words.Suffix.TheVariants as suffix

@@ -6,12 +6,13 @@ use Rattle.arti_aql_lex.specs.declared.token.TokenKind.TheVariants.{Name, Words,
 use Rattle.arti_rows.specs.declared.refusal.What.TheVariants as what
 use Rattle.arti_aql_parse.specs.Words as word
 use Rattle.arti_aql_parse.specs.Front.{kind_at, first_value, tail, literal_at, wrong}
-use Rattle.arti_aql_parse.specs.Tree.{PlainMember, Members, Objects, Suffixes}
+use Rattle.arti_aql_parse.specs.Tree.{PlainMember, Members, Objects}
 use Rattle.arti_aql_parse.specs.Grammar.{Mark, IsField, ReadsKey, ReadsText, ReadsTest, ReadsTexts, ReadsObject, ReadsMember, ReadsObjects, ReadsOrder, ReadsName, ReadsSuffix, ReadsHead, is_fresh, no_suffixes, most_levels}
 use Rattle.arti_aql_parse.specs.declared.fault.ParseFault.{ParseFault}
 use Rattle.arti_aql_parse.specs.declared.fault.ParseFault.TheVariants.{TooDeep}
 use Rattle.arti_aql_parse.specs.declared.query.Op.{Op}
 use Rattle.arti_aql_parse.specs.declared.query.Test.{Test}
+use Rattle.arti_aql_parse.specs.declared.query.Suffixes.{Suffixes}
 use Rattle.arti_aql_parse.specs.declared.words.Group.{Group}
 use Rattle.arti_aql_parse.specs.declared.words.Suffix.{Suffix}
 use Rattle.arti_aql_parse.specs.declared.words.Suffix.TheVariants as suffix

@@ -1,7 +1,7 @@
 -- A query without where it lies in memory.
-use Rattle.std.specs.Prelude.{ℕ, List, Bool, Option}
-use Rattle.arti_aql_parse.specs.declared.query.Sort.{Sort}
+use Rattle.std.specs.Prelude.{ℕ, List}
 use Rattle.arti_aql_parse.specs.declared.query.Test.{Test}
+use Rattle.arti_aql_parse.specs.declared.query.Suffixes.{Suffixes}
 use Rattle.arti_aql_parse.specs.declared.words.Group.{Group}
 
 mutual
@@ -18,14 +18,6 @@ mutual
   pub data Objects : Type 0 where
     no_objects : Objects
     object : Members → Objects → Objects
-
--- what the suffixes say
-pub record Suffixes : Type 0 where
-  pub include : Option (List (List ℕ))
-  pub sort : Option Sort
-  pub offset : Option ℕ
-  pub limit : Option ℕ
-  pub distinct : Option Bool
 
 pub record PlainQuery : Type 0 where
   pub domain : List ℕ

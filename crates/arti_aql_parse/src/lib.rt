@@ -7,6 +7,7 @@ mod fault;
 mod numbers;
 mod parser;
 mod query;
+mod suffixes;
 mod thin;
 mod words;
 

@@ -67,3 +67,13 @@ pub struct Query {
     pub limit: Option<u64>,
     pub distinct: Option<bool>,
 }
+
+/// What the suffixes of a query say.
+#[derive(Debug, Drop)]
+pub struct Suffixes {
+    pub include: Option<Seq<Text>>,
+    pub sort: Option<Sort>,
+    pub offset: Option<u64>,
+    pub limit: Option<u64>,
+    pub distinct: Option<bool>,
+}
