@@ -163,8 +163,17 @@ no_suffixes = record { include = None; sort = None; offset = None; limit = None;
 abbrev pub most_levels : ℕ
 most_levels = 32
 
+-- `)` or `object , object .. )`
+pub data ReadsCriteria : Lexed → Objects → Lexed → Type 0 where
+  no_criteria : {a b : Lexed} → Mark Close a b → ReadsCriteria a no_objects b
+  criteria : {a b : Lexed} {os : Objects} → ReadsObjects most_levels Close a os b → ReadsCriteria a os b
+
 -- a whole query
-pub data ReadsQuery : Lexed → PlainQuery → Type 0 where
-  no_criteria : {a b c : Lexed} {names : List (List ℕ)} {x : Suffixes} → ReadsHead a names b → Mark Close b c → ReadsSuffixes no_suffixes c x → ReadsQuery a (record { domain = joined names; find = no_objects; suffixes = x })
-  criteria : {a b c : Lexed} {names : List (List ℕ)} {os : Objects} {x : Suffixes} → ReadsHead a names b → ReadsObjects most_levels Close b os c → ReadsSuffixes no_suffixes c x
-      → ReadsQuery a (record { domain = joined names; find = os; suffixes = x })
+pub record ReadsQuery (a : Lexed) (q : PlainQuery) : Type 0 where
+  pub names : List (List ℕ)
+  pub open_mark : Lexed
+  pub close_mark : Lexed
+  pub head : ReadsHead a names open_mark
+  pub domain : q.domain ≡ joined names
+  pub find : ReadsCriteria open_mark q.find close_mark
+  pub suffixes : ReadsSuffixes no_suffixes close_mark q.suffixes

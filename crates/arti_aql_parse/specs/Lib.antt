@@ -6,3 +6,4 @@ pub mod Front
 pub mod Grammar
 pub mod Refusal
 pub mod Ahead
+pub mod Spelling

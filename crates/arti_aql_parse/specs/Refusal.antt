@@ -7,7 +7,7 @@ use Rattle.arti_rows.specs.declared.refusal.What.TheVariants as what
 use Rattle.arti_aql_parse.specs.Words as word
 use Rattle.arti_aql_parse.specs.Front.{kind_at, first_value, tail, literal_at, wrong}
 use Rattle.arti_aql_parse.specs.Tree.{PlainMember, Members, Objects}
-use Rattle.arti_aql_parse.specs.Grammar.{Mark, IsField, ReadsKey, ReadsText, ReadsTest, ReadsTexts, ReadsObject, ReadsMember, ReadsObjects, ReadsOrder, ReadsName, ReadsSuffix, ReadsHead, is_fresh, no_suffixes, most_levels}
+use Rattle.arti_aql_parse.specs.Grammar.{Mark, IsField, ReadsKey, ReadsText, ReadsTest, ReadsTexts, ReadsObject, ReadsMember, ReadsObjects, ReadsOrder, ReadsName, ReadsSuffix, ReadsHead, ReadsCriteria, is_fresh, no_suffixes, most_levels}
 use Rattle.arti_aql_parse.specs.declared.fault.ParseFault.{ParseFault}
 use Rattle.arti_aql_parse.specs.declared.fault.ParseFault.TheVariants.{TooDeep}
 use Rattle.arti_aql_parse.specs.declared.query.Op.{Op}
@@ -121,8 +121,10 @@ pub data RefusesHead : Lexed → ParseFault → Type 0 where
   no_find_open : {a : Lexed} {f : ParseFault} → kind_at a ≡ Some Name → word.is_find (first_value a) ≡ true → kind_at (tail a) ≢ Some Dot → kind_at (tail a) ≢ Some Open → f ≡ wrong what.Open (tail a) → RefusesHead a f
   later_name : {a b : Lexed} {f : ParseFault} → kind_at a ≡ Some Name → Mark Dot (tail a) b → RefusesHead b f → RefusesHead a f
 
+pub data RefusesCriteria : Lexed → ParseFault → Type 0 where
+  not_objects : {a : Lexed} {f : ParseFault} → kind_at a ≢ Some Close → RefusesObjects most_levels Close a f → RefusesCriteria a f
+
 pub data RefusesQuery : Lexed → ParseFault → Type 0 where
   in_head : {a : Lexed} {f : ParseFault} → RefusesHead a f → RefusesQuery a f
-  in_criteria : {a b : Lexed} {names : List (List ℕ)} {f : ParseFault} → ReadsHead a names b → kind_at b ≢ Some Close → RefusesObjects most_levels Close b f → RefusesQuery a f
-  behind_head : {a b c : Lexed} {names : List (List ℕ)} {f : ParseFault} → ReadsHead a names b → Mark Close b c → RefusesSuffixes no_suffixes c f → RefusesQuery a f
-  behind_criteria : {a b c : Lexed} {names : List (List ℕ)} {os : Objects} {f : ParseFault} → ReadsHead a names b → ReadsObjects most_levels Close b os c → RefusesSuffixes no_suffixes c f → RefusesQuery a f
+  in_criteria : {a b : Lexed} {names : List (List ℕ)} {f : ParseFault} → ReadsHead a names b → RefusesCriteria b f → RefusesQuery a f
+  behind_criteria : {a b c : Lexed} {names : List (List ℕ)} {os : Objects} {f : ParseFault} → ReadsHead a names b → ReadsCriteria b os c → RefusesSuffixes no_suffixes c f → RefusesQuery a f

@@ -7,6 +7,7 @@ mod fault;
 mod numbers;
 mod parser;
 mod query;
+mod reading;
 mod suffixes;
 mod thin;
 mod words;
@@ -14,6 +15,7 @@ mod words;
 pub use arti_rows::What;
 pub use fault::ParseFault;
 pub use query::{Lit, Member, Object, Op, Query, Sort, Test};
+pub use reading::parse;
 pub use thin::{ThinFault, thin_parse};
 
 #[cfg(test)]
