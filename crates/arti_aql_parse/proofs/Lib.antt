@@ -4,3 +4,4 @@ pub mod RowSteps
 pub mod SuffixRows
 pub mod TreeViews
 pub mod CriteriaRows
+pub mod Joined

@@ -7,7 +7,7 @@ use Rattle.arti_aql_lex.specs.Tokens.{is_end}
 use Rattle.arti_aql_lex.specs.declared.token.TokenKind.{TokenKind}
 use Rattle.arti_aql_parse.specs.Front.{kind_at, tail, is_token}
 use Rattle.arti_aql_parse.proofs.Steps.{is_token_kind}
-use Rattle.arti_aql_parse.specs.declared.fault.ParseFault.{ParseFault}
+use Rattle.arti_aql_parse.specs.declared.fault.ReadFault.{ReadFault}
 
 -- how many tokens are to come
 abbrev pub size : Lexed → ℕ
@@ -21,16 +21,16 @@ size_tail (fault f) h = absurd (false≢true h)
 size_tail (token s e kind value rest) h = omega arith
 
 -- what is read from here on is read from the start, behind what was read already; and a refusal from here on is one from the start
-pub record Goes {X : Type 0} (Reads : Lexed → List X → Lexed → Type 0) (Refuses : Lexed → ParseFault → Type 0) (start now : Lexed) (front : List X) : Type 0 where
+pub record Goes {X : Type 0} (Reads : Lexed → List X → Lexed → Type 0) (Refuses : Lexed → ReadFault → Type 0) (start now : Lexed) (front : List X) : Type 0 where
   pub reads : (xs : List X) (b : Lexed) → Reads now xs b → Reads start (front ++ xs) b
-  pub refuses : (f : ParseFault) → Refuses now f → Refuses start f
+  pub refuses : (f : ReadFault) → Refuses now f → Refuses start f
 
-pub goes_from : {X : Type 0} (Reads : Lexed → List X → Lexed → Type 0) (Refuses : Lexed → ParseFault → Type 0) (start : Lexed) → Goes Reads Refuses start start []
+pub goes_from : {X : Type 0} (Reads : Lexed → List X → Lexed → Type 0) (Refuses : Lexed → ReadFault → Type 0) (start : Lexed) → Goes Reads Refuses start start []
 goes_from Reads Refuses start = record { reads = λ xs b r. r; refuses = λ f r. r }
 
 -- one more part was read, and a comma behind it
-pub goes_on : {X : Type 0} (Reads : Lexed → List X → Lexed → Type 0) (Refuses : Lexed → ParseFault → Type 0) (start now next : Lexed) (front : List X) (x : X)
-    → ((xs : List X) (b : Lexed) → Reads next xs b → Reads now (x ∷ xs) b) → ((f : ParseFault) → Refuses next f → Refuses now f) → Goes Reads Refuses start now front → Goes Reads Refuses start next (front ++ x ∷ [])
+pub goes_on : {X : Type 0} (Reads : Lexed → List X → Lexed → Type 0) (Refuses : Lexed → ReadFault → Type 0) (start now next : Lexed) (front : List X) (x : X)
+    → ((xs : List X) (b : Lexed) → Reads next xs b → Reads now (x ∷ xs) b) → ((f : ReadFault) → Refuses next f → Refuses now f) → Goes Reads Refuses start now front → Goes Reads Refuses start next (front ++ x ∷ [])
 goes_on Reads Refuses start now next front x more later g = record {
   reads = λ xs b r. subst (λ l. Reads start l b) (sym (append_assoc front (x ∷ []) xs)) (g.reads (x ∷ xs) b (more xs b r));
   refuses = λ f r. g.refuses f (later f r);

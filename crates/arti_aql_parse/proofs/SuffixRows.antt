@@ -6,7 +6,7 @@ use Rattle.arti_aql_lex.specs.declared.token.TokenKind.TheVariants.{Dot}
 use Rattle.arti_aql_parse.specs.Front.{tail}
 use Rattle.arti_aql_parse.specs.Grammar.{Mark, ReadsText, ReadsTexts, last_text, more_texts, ReadsOrder, ReadsSort, ReadsNatural, ReadsTruth, ReadsName, ReadsSuffix, include, sort, offset, limit, distinct, ReadsSuffixes, no_suffixes}
 use Rattle.arti_aql_parse.specs.Refusal.{RefusesSuffixes}
-use Rattle.arti_aql_parse.specs.declared.fault.ParseFault.{ParseFault}
+use Rattle.arti_aql_parse.specs.declared.fault.ReadFault.{ReadFault}
 use Rattle.arti_aql_parse.specs.declared.query.Sort.{Sort}
 use Rattle.arti_aql_parse.specs.declared.query.Suffixes.{Suffixes}
 use Rattle.arti_aql_parse.specs.declared.words.Suffix.{Suffix}
@@ -16,7 +16,7 @@ use Rattle.arti_aql_parse.proofs.CriteriaRows.{mark_le}
 -- what is read from here on, beside the suffixes given so far, is read from the start; and a refusal from here on is one from the start
 pub record SuffixesGo (start now : Lexed) (given : Suffixes) : Type 0 where
   pub reads : (all : Suffixes) → ReadsSuffixes given now all → ReadsSuffixes no_suffixes start all
-  pub refuses : (f : ParseFault) → RefusesSuffixes given now f → RefusesSuffixes no_suffixes start f
+  pub refuses : (f : ReadFault) → RefusesSuffixes given now f → RefusesSuffixes no_suffixes start f
 
 texts_le : {close : TokenKind} {a b : Lexed} {xs : List (List ℕ)} → ReadsTexts close a xs b → size b ≤ size a
 texts_le (last_text {a} t m) = omega (arith, ap size t.rest, tail_le a, mark_le m)

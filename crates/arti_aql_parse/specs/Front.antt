@@ -5,8 +5,8 @@ use Rattle.arti_aql_lex.specs.declared.token.TokenKind.{TokenKind}
 use Rattle.arti_aql_lex.specs.declared.token.TokenKind.TheVariants.{Name, Words, Number, End}
 use Rattle.arti_rows.specs.declared.refusal.What.{What}
 use Rattle.arti_aql_parse.specs.Words as word
-use Rattle.arti_aql_parse.specs.declared.fault.ParseFault.{ParseFault}
-use Rattle.arti_aql_parse.specs.declared.fault.ParseFault.TheVariants.{Lex, Expected}
+use Rattle.arti_aql_parse.specs.declared.fault.ReadFault.{ReadFault}
+use Rattle.arti_aql_parse.specs.declared.fault.ReadFault.TheVariants.{Lex, Expected}
 use Rattle.arti_aql_parse.specs.declared.query.Lit.{Lit}
 use Rattle.arti_aql_parse.specs.declared.query.Lit.TheVariants as lit
 
@@ -48,7 +48,7 @@ literal_at (fault f) = None
 literal_at (token s e kind value rest) = literal_of kind value
 
 -- the refusal of tokens at whose front a part should begin
-abbrev pub wrong : What → Lexed → ParseFault
+abbrev pub wrong : What → Lexed → ReadFault
 wrong part (finish at) = Expected at part
 wrong part (fault f) = Lex f
 wrong part (token s e kind value rest) = Expected s part

@@ -2,6 +2,7 @@ pub mod Thin
 pub mod Words
 pub mod Tree
 pub mod View
+pub mod Fault
 pub mod Front
 pub mod Grammar
 pub mod Refusal

@@ -7,6 +7,8 @@ use Rattle.arti_aql_parse.specs.Tree.{PlainQuery}
 use Rattle.arti_aql_parse.specs.View.{view}
 use Rattle.arti_aql_parse.specs.declared.fault.ParseFault.{ParseFault}
 use Rattle.arti_aql_parse.specs.declared.fault.ParseFault.TheVariants.{Memory, QueryTooLong, Lex, Expected, TooDeep}
+use Rattle.arti_aql_parse.specs.declared.fault.ReadFault.{ReadFault}
+use Rattle.arti_aql_parse.specs.declared.fault.ReadFault.TheVariants as reading
 use Rattle.arti_aql_parse.specs.declared.query.Query.{Query}
 
 -- a query text has at most so many bytes
@@ -19,7 +21,7 @@ pub record Spells (text : List ℕ) (q : PlainQuery) : Type 0 where
   pub reads : ReadsQuery (lexed 0 0 text) q
 
 -- the text is refused so
-pub record Refuses (text : List ℕ) (f : ParseFault) : Type 0 where
+pub record Refuses (text : List ℕ) (f : ReadFault) : Type 0 where
   pub short : length text ≤ most_bytes
   pub refuses : RefusesQuery (lexed 0 0 text) f
 
@@ -32,6 +34,6 @@ Answers q (Err f) = f ≡ Memory
 abbrev pub FaultOf : List ℕ → ParseFault → Type 0
 FaultOf text Memory = Unit {0}
 FaultOf text QueryTooLong = most_bytes < length text
-FaultOf text (Lex f) = Refuses text (Lex f)
-FaultOf text (Expected at part) = Refuses text (Expected at part)
-FaultOf text TooDeep = Refuses text TooDeep
+FaultOf text (Lex f) = Refuses text (reading.Lex f)
+FaultOf text (Expected at part) = Refuses text (reading.Expected at part)
+FaultOf text TooDeep = Refuses text reading.TooDeep

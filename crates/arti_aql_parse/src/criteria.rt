@@ -2,7 +2,7 @@
 ghost use Rattle.std.specs.Prelude.{◌≡◌, ◌≢◌, true, false, None, IfOk, IfErr};
 ghost use Rattle.arti_aql_lex.specs.Tokens.{is_end};
 ghost use Rattle.arti_aql_parse.specs.Ahead.{to_come};
-ghost use Rattle.arti_aql_parse.specs.declared.fault.ParseFault.TheVariants.{Memory};
+ghost use Rattle.arti_aql_parse.specs.declared.fault.ReadFault.TheVariants.{Memory};
 ghost use Rattle.arti_aql_parse.specs.Words.{is_key};
 ghost use Rattle.arti_aql_parse.specs.Tree.{group};
 ghost use Rattle.arti_aql_parse.specs.View.{object_view, member_view, members_view, objects_view};
@@ -10,7 +10,7 @@ ghost use Rattle.arti_aql_parse.specs.Grammar.{ReadsKey, ReadsOperand, ReadsObje
 ghost use Rattle.arti_aql_parse.specs.Refusal.{RefusesKey, RefusesOperand, RefusesObject, RefusesMember, RefusesMembers, RefusesObjects};
 
 use crate::elements::{literal, tests};
-use crate::fault::ParseFault;
+use crate::fault::ReadFault;
 use crate::parser::Parser;
 use crate::query::{Member, Object, Op, Test};
 use crate::words::{Group, begins_with_dollar, group_of};
@@ -20,7 +20,7 @@ use std::alloc::Global;
 
 // Reads the key of a member and its colon.
 #[tactic(auto, using(crate::specs::Refusal::no_key, crate::specs::Refusal::bad_key, crate::specs::Refusal::no_key_colon))]
-fn key(alloc: Global, parser: &mut Parser<'_>) -> Result<Text, ParseFault>
+fn key(alloc: Global, parser: &mut Parser<'_>) -> Result<Text, ReadFault>
     ensures read { IfOk result (λ key. ReadsKey (to_come parser.old) key (to_come parser.new)) }
     ensures fits { IfOk result (λ key. is_key key ≡ true) }
     ensures refused { IfErr result (λ f. f ≢ Memory → RefusesKey (to_come parser.old) f) }
@@ -39,13 +39,13 @@ fn key(alloc: Global, parser: &mut Parser<'_>) -> Result<Text, ParseFault>
 
 // Reads what a field is tested against. So many braces and brackets may still be opened.
 #[tactic(auto, using(crate::specs::Grammar::equals, crate::specs::Grammar::compares, crate::specs::Refusal::no_operand, crate::specs::Refusal::deep_tests, crate::specs::Refusal::in_tests))]
-fn operand(alloc: Global, parser: &mut Parser<'_>, left: u32) -> Result<Vec<Test>, ParseFault>
+fn operand(alloc: Global, parser: &mut Parser<'_>, left: u32) -> Result<Vec<Test>, ReadFault>
     ensures read { IfOk result (λ xs. ReadsOperand left (to_come parser.old) xs.items (to_come parser.new)) }
     ensures refused { IfErr result (λ f. f ≢ Memory → RefusesOperand left (to_come parser.old) f) }
 {
     if parser.is_at(TokenKind::ObjectOpen) {
         if left == 0 {
-            return Err(ParseFault::TooDeep);
+            return Err(ReadFault::TooDeep);
         }
         parser.pass();
         return tests(alloc, parser);
@@ -72,7 +72,7 @@ fn joined(join: Group, objects: Vec<Object>) -> Member
 
 // Reads an object. So many braces and brackets may still be opened.
 #[cycle(criteria)]
-fn object(alloc: Global, parser: &mut Parser<'_>, left: u32) -> Result<Object, ParseFault>
+fn object(alloc: Global, parser: &mut Parser<'_>, left: u32) -> Result<Object, ReadFault>
     ensures read { IfOk result (λ o. ReadsObject left (to_come parser.old) (object_view o) (to_come parser.new)) }
     ensures refused { IfErr result (λ f. f ≢ Memory → RefusesObject left (to_come parser.old) f) }
 {
@@ -80,7 +80,7 @@ fn object(alloc: Global, parser: &mut Parser<'_>, left: u32) -> Result<Object, P
         return Err(parser.refusal(What::Object));
     }
     if left == 0 {
-        return Err(ParseFault::TooDeep);
+        return Err(ReadFault::TooDeep);
     }
     parser.pass();
     if parser.is_at(TokenKind::ObjectClose) {
@@ -95,7 +95,7 @@ fn object(alloc: Global, parser: &mut Parser<'_>, left: u32) -> Result<Object, P
 
 // Reads the members of an object up to the closing brace.
 #[cycle(criteria)]
-fn members(alloc: Global, parser: &mut Parser<'_>, left: u32) -> Result<Vec<Member>, ParseFault>
+fn members(alloc: Global, parser: &mut Parser<'_>, left: u32) -> Result<Vec<Member>, ReadFault>
     ensures read { IfOk result (λ ms. ReadsMembers left (to_come parser.old) (members_view ms.items) (to_come parser.new)) }
     ensures refused { IfErr result (λ f. f ≢ Memory → RefusesMembers left (to_come parser.old) f) }
 {
@@ -111,7 +111,7 @@ fn members(alloc: Global, parser: &mut Parser<'_>, left: u32) -> Result<Vec<Memb
 
 // Reads a member of an object.
 #[cycle(criteria)]
-fn member(alloc: Global, parser: &mut Parser<'_>, left: u32) -> Result<Member, ParseFault>
+fn member(alloc: Global, parser: &mut Parser<'_>, left: u32) -> Result<Member, ReadFault>
     ensures read { IfOk result (λ m. ReadsMember left (to_come parser.old) (member_view m) (to_come parser.new)) }
     ensures refused { IfErr result (λ f. f ≢ Memory → RefusesMember left (to_come parser.old) f) }
 {
@@ -124,7 +124,7 @@ fn member(alloc: Global, parser: &mut Parser<'_>, left: u32) -> Result<Member, P
         return Err(parser.refusal(What::List));
     }
     if left == 0 {
-        return Err(ParseFault::TooDeep);
+        return Err(ReadFault::TooDeep);
     }
     parser.pass();
     let objects = objects(alloc, parser, left - 1, TokenKind::ListClose)?;
@@ -138,7 +138,7 @@ pub fn objects(
     parser: &mut Parser<'_>,
     left: u32,
     close: TokenKind,
-) -> Result<Vec<Object>, ParseFault>
+) -> Result<Vec<Object>, ReadFault>
     requires { is_end close ≡ false }
     ensures read { IfOk result (λ os. ReadsObjects left close (to_come parser.old) (objects_view os.items) (to_come parser.new)) }
     ensures refused { IfErr result (λ f. f ≢ Memory → RefusesObjects left close (to_come parser.old) f) }

@@ -3,11 +3,11 @@ ghost use Rattle.std.specs.Prelude.{◌≡◌, ◌≢◌, ◌++◌, List, ℕ, t
 ghost use Rattle.arti_aql_lex.specs.Tokens.{is_end};
 ghost use Rattle.arti_aql_lex.specs.declared.token.TokenKind.TheVariants.{ObjectClose};
 ghost use Rattle.arti_aql_parse.specs.Ahead.{to_come, TakesLiteral};
-ghost use Rattle.arti_aql_parse.specs.declared.fault.ParseFault.TheVariants.{Memory};
+ghost use Rattle.arti_aql_parse.specs.declared.fault.ReadFault.TheVariants.{Memory};
 ghost use Rattle.arti_aql_parse.specs.Grammar.{ReadsTexts, ReadsTest, ReadsTests};
 ghost use Rattle.arti_aql_parse.specs.Refusal.{RefusesTexts, RefusesTest, RefusesTests};
 
-use crate::fault::ParseFault;
+use crate::fault::ReadFault;
 use crate::numbers::number_of;
 use crate::parser::Parser;
 use crate::query::{Lit, Test};
@@ -41,7 +41,7 @@ pub fn literal(alloc: Global, parser: &mut Parser<'_>) -> Result<Option<Lit>, Al
 }
 
 /// Reads the texts of a row up to its closing mark.
-pub fn texts(alloc: Global, parser: &mut Parser<'_>, close: TokenKind) -> Result<Vec<Text>, ParseFault>
+pub fn texts(alloc: Global, parser: &mut Parser<'_>, close: TokenKind) -> Result<Vec<Text>, ReadFault>
     requires { is_end close ≡ false }
     ensures read { IfOk result (λ xs. ReadsTexts close (to_come parser.old) xs.items (to_come parser.new)) }
     ensures refused { IfErr result (λ f. f ≢ Memory → RefusesTexts close (to_come parser.old) f) }
@@ -58,7 +58,7 @@ pub fn texts(alloc: Global, parser: &mut Parser<'_>, close: TokenKind) -> Result
 
 /// Reads one test of a field.
 #[tactic(auto, using(crate::specs::Refusal::no_words, crate::specs::Refusal::no_operator, crate::specs::Refusal::no_colon, crate::specs::Refusal::no_literal))]
-pub fn test(alloc: Global, parser: &mut Parser<'_>) -> Result<Test, ParseFault>
+pub fn test(alloc: Global, parser: &mut Parser<'_>) -> Result<Test, ReadFault>
     ensures read { IfOk result (λ x. ReadsTest (to_come parser.old) x (to_come parser.new)) }
     ensures refused { IfErr result (λ f. f ≢ Memory → RefusesTest (to_come parser.old) f) }
 {
@@ -78,7 +78,7 @@ pub fn test(alloc: Global, parser: &mut Parser<'_>) -> Result<Test, ParseFault>
 }
 
 /// Reads the tests of a field up to the closing brace.
-pub fn tests(alloc: Global, parser: &mut Parser<'_>) -> Result<Vec<Test>, ParseFault>
+pub fn tests(alloc: Global, parser: &mut Parser<'_>) -> Result<Vec<Test>, ReadFault>
     ensures read { IfOk result (λ xs. ReadsTests (to_come parser.old) xs.items (to_come parser.new)) }
     ensures refused { IfErr result (λ f. f ≢ Memory → RefusesTests (to_come parser.old) f) }
 {

@@ -1,4 +1,6 @@
 //! Why a text is no query.
+ghost use Rattle.std.specs.Prelude.{◌≡◌};
+ghost use Rattle.arti_aql_parse.specs.Fault.{fault_of};
 
 use arti_aql_lex::LexFault;
 use arti_rows::What;
@@ -24,24 +26,49 @@ pub enum ParseFault {
     TooDeep,
 }
 
-impl From<AllocError> for ParseFault {
-    ghost use Rattle.std.specs.Prelude.{◌≡◌};
-    ghost use Rattle.arti_aql_parse.specs.declared.fault.ParseFault.TheVariants.{Memory};
+/// Why tokens are no query.
+#[derive(Clone, Copy, Debug, PartialEq, Eq, Error)]
+pub enum ReadFault {
+    #[error("out of memory")]
+    Memory,
+    #[error("{0}")]
+    Lex(LexFault),
+    #[error("at {0} another part should begin")]
+    Expected(u32, What),
+    #[error("the query is too deep")]
+    TooDeep,
+}
 
-    ghost from_gives = { λ _ e. e ≡ Memory };
-
-    fn from(_e: AllocError) -> ParseFault {
-        ParseFault::Memory
+/// The same as a refusal of the text.
+pub fn fault_of(fault: ReadFault) -> ParseFault
+    ensures { result ≡ fault_of fault }
+{
+    match fault {
+        ReadFault::Memory => ParseFault::Memory,
+        ReadFault::Lex(fault) => ParseFault::Lex(fault),
+        ReadFault::Expected(place, part) => ParseFault::Expected(place, part),
+        ReadFault::TooDeep => ParseFault::TooDeep,
     }
 }
 
-impl<T: Drop> From<AllocFailed<T>> for ParseFault {
+impl From<AllocError> for ReadFault {
     ghost use Rattle.std.specs.Prelude.{◌≡◌};
-    ghost use Rattle.arti_aql_parse.specs.declared.fault.ParseFault.TheVariants.{Memory};
+    ghost use Rattle.arti_aql_parse.specs.declared.fault.ReadFault.TheVariants.{Memory};
 
     ghost from_gives = { λ _ e. e ≡ Memory };
 
-    fn from(_e: AllocFailed<T>) -> ParseFault {
-        ParseFault::Memory
+    fn from(_e: AllocError) -> ReadFault {
+        ReadFault::Memory
+    }
+}
+
+impl<T: Drop> From<AllocFailed<T>> for ReadFault {
+    ghost use Rattle.std.specs.Prelude.{◌≡◌};
+    ghost use Rattle.arti_aql_parse.specs.declared.fault.ReadFault.TheVariants.{Memory};
+
+    ghost from_gives = { λ _ e. e ≡ Memory };
+
+    fn from(_e: AllocFailed<T>) -> ReadFault {
+        ReadFault::Memory
     }
 }

@@ -9,9 +9,9 @@ ghost use Rattle.arti_aql_parse.specs.Front.{kind_at, first_value, tail, is_toke
 ghost use Rattle.arti_aql_parse.specs.Grammar.{Mark, ReadsText};
 ghost use Rattle.arti_aql_parse.specs.Refusal.{NoneFollows};
 ghost use Rattle.arti_aql_parse.specs.Ahead.{to_come};
-ghost use Rattle.arti_aql_parse.specs.declared.fault.ParseFault.TheVariants.{Memory};
+ghost use Rattle.arti_aql_parse.specs.declared.fault.ReadFault.TheVariants.{Memory};
 
-use crate::fault::ParseFault;
+use crate::fault::ReadFault;
 use arti_aql_lex::{LexFault, Lexer, Token, TokenKind};
 use arti_rows::{Text, What};
 use std::alloc::{AllocError, Global};
@@ -56,12 +56,12 @@ impl<'a> Parser<'a> {
     }
 
     /// The refusal of the first token, in whose place a part should begin.
-    pub fn refusal(&self, part: What) -> ParseFault
+    pub fn refusal(&self, part: What) -> ReadFault
         ensures { result ≡ wrong part (to_come self.now) }
     {
         match self.first {
-            Ok(token) => ParseFault::Expected(token.start, part),
-            Err(fault) => ParseFault::Lex(fault),
+            Ok(token) => ReadFault::Expected(token.start, part),
+            Err(fault) => ReadFault::Lex(fault),
         }
     }
 
@@ -91,7 +91,7 @@ impl<'a> Parser<'a> {
     }
 
     /// Passes a token of a kind, where a part should begin.
-    pub fn take(&mut self, kind: TokenKind, part: What) -> Result<(), ParseFault>
+    pub fn take(&mut self, kind: TokenKind, part: What) -> Result<(), ReadFault>
         requires { is_end kind ≡ false }
         ensures ok { OnOk result (Mark kind (to_come self.old) (to_come self.new)) }
         ensures err { IfErr result (λ f. (f ≡ wrong part (to_come self.old)) × (kind_at (to_come self.old) ≢ Some kind)) }
@@ -104,7 +104,7 @@ impl<'a> Parser<'a> {
     }
 
     /// Passes a text, where one should begin.
-    pub fn take_text(&mut self, alloc: Global) -> Result<Text, ParseFault>
+    pub fn take_text(&mut self, alloc: Global) -> Result<Text, ReadFault>
         ensures ok { IfOk result (λ x. ReadsText (to_come self.old) x (to_come self.new)) }
         ensures err { IfErr result (λ f. f ≢ Memory → (f ≡ wrong what.Text (to_come self.old)) × (kind_at (to_come self.old) ≢ Some Words)) }
     {
@@ -117,7 +117,7 @@ impl<'a> Parser<'a> {
     }
 
     /// Passes a comma, or the mark that closes a row; says which.
-    pub fn more(&mut self, close: TokenKind) -> Result<bool, ParseFault>
+    pub fn more(&mut self, close: TokenKind) -> Result<bool, ReadFault>
         requires { is_end close ≡ false }
         ensures more { IfOk result (λ more. MatchBool more (Mark Comma (to_come self.old) (to_come self.new)) (Mark close (to_come self.old) (to_come self.new))) }
         ensures err { IfErr result (NoneFollows close (to_come self.old)) }

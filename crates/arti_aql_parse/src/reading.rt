@@ -2,7 +2,7 @@
 ghost use Rattle.std.specs.Prelude.{◌≡◌, ◌≢◌, List, ℕ, Some, IfOk, IfErr};
 ghost use Rattle.arti_aql_lex.specs.declared.token.TokenKind.TheVariants.{Close};
 ghost use Rattle.arti_aql_parse.specs.Ahead.{to_come};
-ghost use Rattle.arti_aql_parse.specs.declared.fault.ParseFault.TheVariants.{Memory};
+ghost use Rattle.arti_aql_parse.specs.declared.fault.ReadFault.TheVariants.{Memory};
 ghost use Rattle.arti_aql_parse.specs.Front.{kind_at};
 ghost use Rattle.arti_aql_parse.specs.Tree.{PlainQuery};
 ghost use Rattle.arti_aql_parse.specs.View.{view, objects_view};
@@ -11,7 +11,7 @@ ghost use Rattle.arti_aql_parse.specs.Refusal.{RefusesHead, RefusesCriteria, Ref
 ghost use Rattle.arti_aql_parse.specs.Spelling.{Spells, Answers, FaultOf};
 
 use crate::criteria::objects;
-use crate::fault::ParseFault;
+use crate::fault::{ParseFault, ReadFault, fault_of};
 use crate::parser::Parser;
 use crate::query::{Object, Query};
 use crate::suffixes::suffixes;
@@ -27,7 +27,7 @@ const MOST_BYTES: usize = 65_536;
 const MOST_LEVELS: u32 = 32;
 
 // Reads the names of a domain, up to the parenthesis behind `find`.
-fn head(alloc: Global, parser: &mut Parser<'_>) -> Result<Vec<Text>, ParseFault>
+fn head(alloc: Global, parser: &mut Parser<'_>) -> Result<Vec<Text>, ReadFault>
     ensures read { IfOk result (λ xs. ReadsHead (to_come parser.old) xs.items (to_come parser.new)) }
     ensures refused { IfErr result (λ f. f ≢ Memory → RefusesHead (to_come parser.old) f) }
 {
@@ -66,7 +66,7 @@ fn domain(alloc: Global, names: &[Text]) -> Result<Text, AllocError>
 
 #[tactic(auto, using(crate::specs::Grammar::no_criteria, crate::specs::Grammar::criteria, crate::specs::Refusal::not_objects))]
 // Reads the objects of a query, if any, and the closing parenthesis.
-fn criteria(alloc: Global, parser: &mut Parser<'_>) -> Result<Vec<Object>, ParseFault>
+fn criteria(alloc: Global, parser: &mut Parser<'_>) -> Result<Vec<Object>, ReadFault>
     ensures read { IfOk result (λ os. ReadsCriteria (to_come parser.old) (objects_view os.items) (to_come parser.new)) }
     ensures refused { IfErr result (λ f. f ≢ Memory → RefusesCriteria (to_come parser.old) f) }
 {
@@ -78,7 +78,7 @@ fn criteria(alloc: Global, parser: &mut Parser<'_>) -> Result<Vec<Object>, Parse
 }
 
 #[tactic(auto, using(crate::specs::Refusal::in_head, crate::specs::Refusal::in_criteria, crate::specs::Refusal::behind_criteria))]
-fn query(alloc: Global, parser: &mut Parser<'_>) -> Result<Query, ParseFault>
+fn query(alloc: Global, parser: &mut Parser<'_>) -> Result<Query, ReadFault>
     ensures read { IfOk result (λ q. ReadsQuery (to_come parser.old) (view q)) }
     ensures refused { IfErr result (λ f. f ≢ Memory → RefusesQuery (to_come parser.old) f) }
 {
@@ -108,5 +108,8 @@ pub fn parse(alloc: Global, text: &str) -> Result<Query, ParseFault>
         return Err(ParseFault::QueryTooLong);
     }
     let mut parser = Parser::new(text);
-    query(alloc, &mut parser)
+    match query(alloc, &mut parser) {
+        Ok(query) => Ok(query),
+        Err(fault) => Err(fault_of(fault)),
+    }
 }

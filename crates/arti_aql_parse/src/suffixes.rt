@@ -1,12 +1,12 @@
 //! What follows the closing parenthesis of a query.
 ghost use Rattle.std.specs.Prelude.{◌≡◌, ◌≢◌, IfOk, IfErr};
 ghost use Rattle.arti_aql_parse.specs.Ahead.{to_come};
-ghost use Rattle.arti_aql_parse.specs.declared.fault.ParseFault.TheVariants.{Memory};
+ghost use Rattle.arti_aql_parse.specs.declared.fault.ReadFault.TheVariants.{Memory};
 ghost use Rattle.arti_aql_parse.specs.Grammar.{ReadsOrder, ReadsSort, ReadsNatural, ReadsTruth, ReadsName, ReadsSuffix, ReadsSuffixes, is_fresh, no_suffixes};
 ghost use Rattle.arti_aql_parse.specs.Refusal.{RefusesOrder, RefusesSort, RefusesNatural, RefusesTruth, RefusesName, RefusesSuffix, RefusesSuffixes};
 
 use crate::elements::texts;
-use crate::fault::ParseFault;
+use crate::fault::ReadFault;
 use crate::numbers::natural_of;
 use crate::parser::Parser;
 use crate::query::{Sort, Suffixes};
@@ -17,7 +17,7 @@ use std::alloc::Global;
 
 // Reads the order of a sort, up to the bracket of its fields.
 #[tactic(auto, using(crate::specs::Refusal::no_brace, crate::specs::Refusal::no_order, crate::specs::Refusal::bad_order, crate::specs::Refusal::no_order_colon, crate::specs::Refusal::no_bracket))]
-fn order(alloc: Global, parser: &mut Parser<'_>) -> Result<bool, ParseFault>
+fn order(alloc: Global, parser: &mut Parser<'_>) -> Result<bool, ReadFault>
     ensures read { IfOk result (λ x. ReadsOrder (to_come parser.old) x (to_come parser.new)) }
     ensures refused { IfErr result (λ f. f ≢ Memory → RefusesOrder (to_come parser.old) f) }
 {
@@ -37,7 +37,7 @@ fn order(alloc: Global, parser: &mut Parser<'_>) -> Result<bool, ParseFault>
 
 // Reads the argument of a sort and the closing parenthesis.
 #[tactic(auto, using(crate::specs::Refusal::not_an_order, crate::specs::Refusal::in_fields, crate::specs::Refusal::no_end_brace, crate::specs::Refusal::no_sort_end))]
-fn sort(alloc: Global, parser: &mut Parser<'_>) -> Result<Sort, ParseFault>
+fn sort(alloc: Global, parser: &mut Parser<'_>) -> Result<Sort, ReadFault>
     ensures read { IfOk result (λ x. ReadsSort (to_come parser.old) x (to_come parser.new)) }
     ensures refused { IfErr result (λ f. f ≢ Memory → RefusesSort (to_come parser.old) f) }
 {
@@ -53,7 +53,7 @@ fn sort(alloc: Global, parser: &mut Parser<'_>) -> Result<Sort, ParseFault>
 
 // Reads a number that isn't negative and the closing parenthesis.
 #[tactic(auto, using(crate::specs::Refusal::no_number, crate::specs::Refusal::negative, crate::specs::Refusal::no_number_end))]
-fn natural(alloc: Global, parser: &mut Parser<'_>) -> Result<u64, ParseFault>
+fn natural(alloc: Global, parser: &mut Parser<'_>) -> Result<u64, ReadFault>
     ensures read { IfOk result (λ x. ReadsNatural (to_come parser.old) x (to_come parser.new)) }
     ensures refused { IfErr result (λ f. f ≢ Memory → RefusesNatural (to_come parser.old) f) }
 {
@@ -71,7 +71,7 @@ fn natural(alloc: Global, parser: &mut Parser<'_>) -> Result<u64, ParseFault>
 
 // Reads `true` or `false` and the closing parenthesis.
 #[tactic(auto, using(crate::specs::Refusal::no_truth, crate::specs::Refusal::other_name, crate::specs::Refusal::no_truth_end))]
-fn truth(alloc: Global, parser: &mut Parser<'_>) -> Result<bool, ParseFault>
+fn truth(alloc: Global, parser: &mut Parser<'_>) -> Result<bool, ReadFault>
     ensures read { IfOk result (λ x. ReadsTruth (to_come parser.old) x (to_come parser.new)) }
     ensures refused { IfErr result (λ f. f ≢ Memory → RefusesTruth (to_come parser.old) f) }
 {
@@ -102,7 +102,7 @@ fn is_fresh(given: &Suffixes, suffix: Suffix) -> bool
 
 // Reads the name of a suffix that was not given before, and the opening parenthesis.
 #[tactic(auto, using(crate::specs::Refusal::no_suffix, crate::specs::Refusal::no_such_suffix, crate::specs::Refusal::given_before, crate::specs::Refusal::no_open))]
-fn name(alloc: Global, parser: &mut Parser<'_>, given: &Suffixes) -> Result<Suffix, ParseFault>
+fn name(alloc: Global, parser: &mut Parser<'_>, given: &Suffixes) -> Result<Suffix, ReadFault>
     ensures read { IfOk result (λ x. ReadsName given.now (to_come parser.old) x (to_come parser.new)) }
     ensures refused { IfErr result (λ f. f ≢ Memory → RefusesName given.now (to_come parser.old) f) }
 {
@@ -123,7 +123,7 @@ fn name(alloc: Global, parser: &mut Parser<'_>, given: &Suffixes) -> Result<Suff
 
 // Reads a suffix, behind its dot, beside those that were given before.
 #[tactic(auto, using(crate::specs::Grammar::include, crate::specs::Grammar::sort, crate::specs::Grammar::offset, crate::specs::Grammar::limit, crate::specs::Grammar::distinct, crate::specs::Refusal::not_a_name, crate::specs::Refusal::in_include, crate::specs::Refusal::in_sort, crate::specs::Refusal::in_offset, crate::specs::Refusal::in_limit, crate::specs::Refusal::in_distinct))]
-fn suffix(alloc: Global, parser: &mut Parser<'_>, given: Suffixes) -> Result<Suffixes, ParseFault>
+fn suffix(alloc: Global, parser: &mut Parser<'_>, given: Suffixes) -> Result<Suffixes, ReadFault>
     ensures read { IfOk result (λ x. ReadsSuffix given (to_come parser.old) x (to_come parser.new)) }
     ensures refused { IfErr result (λ f. f ≢ Memory → RefusesSuffix given (to_come parser.old) f) }
 {
@@ -142,7 +142,7 @@ fn suffix(alloc: Global, parser: &mut Parser<'_>, given: Suffixes) -> Result<Suf
 }
 
 /// Reads the suffixes up to the end of the text, each once.
-pub fn suffixes(alloc: Global, parser: &mut Parser<'_>) -> Result<Suffixes, ParseFault>
+pub fn suffixes(alloc: Global, parser: &mut Parser<'_>) -> Result<Suffixes, ReadFault>
     ensures read { IfOk result (λ x. ReadsSuffixes no_suffixes (to_come parser.old) x) }
     ensures refused { IfErr result (λ f. f ≢ Memory → RefusesSuffixes no_suffixes (to_come parser.old) f) }
 {
