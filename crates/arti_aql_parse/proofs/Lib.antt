@@ -5,3 +5,5 @@ pub mod SuffixRows
 pub mod TreeViews
 pub mod CriteriaRows
 pub mod Joined
+pub mod OneReading
+pub mod ParseLaws

@@ -101,6 +101,8 @@ fn query(alloc: Global, parser: &mut Parser<'_>) -> Result<Query, ReadFault>
 pub fn parse(alloc: Global, text: &str) -> Result<Query, ParseFault>
     // What is read is spelled so.
     ensures found { IfOk result (λ q. Spells text.now (view q)) }
+    // What is spelled so is read, unless memory runs out.
+    ensures only { (q : PlainQuery) → Spells text.now q → Answers q result }
     // Each refusal is the first one, at its place.
     ensures refused { IfErr result (λ f. FaultOf text.now f) }
 {
