@@ -162,7 +162,6 @@ mutual
   member_one l e (field k f o) (field k' f' o') = let g = key_one e k k' in let i = operand_one g.1 o o' in (λ j. tests (g.0 j) (i.0 j), i.1)
 
   objects_one : {n n' : ℕ} {a a' b b' : Lexed} {close : TokenKind} {x x' : Objects} → n ≡ n' → a ≡ a' → ReadsObjects n close a x b → ReadsObjects n' close a' x' b' → close ≢ Comma → (x ≡ x') × (b ≡ b')
-
   objects_one l e (last_object x m) (last_object y k) differ = let f = object_one l e x y in (ap (λ v. object v no_objects) f.0, marks_same f.1 m k)
   objects_one l e (last_object x m) (more_objects y k s) differ = absurd (marks_apart differ (object_one l e x y).1 m k)
   objects_one l e (more_objects x m r) (last_object y k) differ = absurd (marks_apart (λ q. differ (sym q)) (object_one l e x y).1 m k)
@@ -253,7 +252,6 @@ name_not g e s (no.given_before here named old is) =
     let same = some_same (sym s.name ∙ ap (λ v. word.suffix_of (first_value v)) e ∙ named) in
     false≢true (sym old ∙ sym (λ j. is_fresh (g j) (same j)) ∙ s.fresh)
 name_not g e s (no.no_open here named fresh other is) = other (ap (λ v. kind_at (tail v)) (sym e) ∙ s.open_mark)
-
 
 suffix_one : {given given' next next' : Suffixes} {a a' b b' : Lexed} → given ≡ given' → a ≡ a' → ReadsSuffix given a next b → ReadsSuffix given' a' next' b' → (next ≡ next') × (b ≡ b')
 suffix_one g e (include n r) (include m s) = let i = texts_one close_comma (name_one e n m).1 r s in (λ j. record (g j) { include = Some (i.0 j) }, i.1)
@@ -377,4 +375,3 @@ pub query_not : {a : Lexed} {q : PlainQuery} {f : ReadFault} → ReadsQuery a q 
 query_not r (no.in_head g) = head_not refl r.head g
 query_not r (no.in_criteria h g) = criteria_not (head_one refl r.head h).1 r.find g
 query_not r (no.behind_criteria h c g) = suffixes_not refl (criteria_one (head_one refl r.head h).1 r.find c).1 r.suffixes g
-

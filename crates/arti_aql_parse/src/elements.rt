@@ -41,7 +41,11 @@ pub fn literal(alloc: Global, parser: &mut Parser<'_>) -> Result<Option<Lit>, Al
 }
 
 /// Reads the texts of a row up to its closing mark.
-pub fn texts(alloc: Global, parser: &mut Parser<'_>, close: TokenKind) -> Result<Vec<Text>, ReadFault>
+pub fn texts(
+    alloc: Global,
+    parser: &mut Parser<'_>,
+    close: TokenKind,
+) -> Result<Vec<Text>, ReadFault>
     requires { is_end close ≡ false }
     ensures read { IfOk result (λ xs. ReadsTexts close (to_come parser.old) xs.items (to_come parser.new)) }
     ensures refused { IfErr result (λ f. f ≢ Memory → RefusesTexts close (to_come parser.old) f) }

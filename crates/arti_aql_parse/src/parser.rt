@@ -34,7 +34,6 @@ impl<'a> Model for Parser<'a> {
     ghost invariant = { λ p. IsFirst p.first p.lexer.text };
 }
 
-
 impl<'a> Parser<'a> {
     pub fn new(text: &'a str) -> Parser<'a>
         requires { length text.now < 2 ^ 32 }
