@@ -1,0 +1,9 @@
+pub mod ThinFronts
+pub mod Steps
+pub mod RowSteps
+pub mod SuffixRows
+pub mod TreeViews
+pub mod CriteriaRows
+pub mod Joined
+pub mod OneReading
+pub mod ParseLaws

@@ -1,0 +1,10 @@
+pub mod Thin
+pub mod Words
+pub mod Tree
+pub mod View
+pub mod Fault
+pub mod Front
+pub mod Grammar
+pub mod Refusal
+pub mod Ahead
+pub mod Spelling

@@ -1,0 +1,22 @@
+//! Query texts, read and printed.
+#![tactic(auto)]
+
+mod criteria;
+mod elements;
+mod fault;
+mod numbers;
+mod parser;
+mod query;
+mod reading;
+mod suffixes;
+mod thin;
+mod words;
+
+pub use arti_rows::What;
+pub use fault::ParseFault;
+pub use query::{Lit, Member, Object, Op, Query, Sort, Test};
+pub use reading::parse;
+pub use thin::{ThinFault, thin_parse};
+
+#[cfg(test)]
+mod tests;
