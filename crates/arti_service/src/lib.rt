@@ -11,3 +11,6 @@ mod stored;
 pub use answering::{Stop, answer};
 pub use conversation::{Ending, converse};
 pub use store::Store;
+
+#[cfg(test)]
+mod tests;
