@@ -1,7 +1,8 @@
 #!/bin/bash
 # Times `wild`, `ant` and `captures` on inputs on which a matcher that tries every split would not end: many stars on a
-# long run of one letter, and no match at the end; and one star before a long part that nearly fits at each place. Each line doubles pattern and text, so that quadratic time shows as a
-# factor of four. It works in a copy, and leaves nothing in the repository.
+# long run of one letter, and no match at the end; and one star before a long part that nearly fits at each place. Each
+# line but the last doubles pattern and text, so that quadratic time shows as a factor of four; the last has 1,000 stars
+# on a text of 100,000 bytes. It works in a copy, and leaves nothing in the repository.
 #
 #     bench/wild/run.sh
 set -e
@@ -36,12 +37,13 @@ fn micros(rt: &HostRuntime, start: Instant) -> io::Result<u128> {
     Ok(start.elapsed(rt)?.as_micros())
 }
 
-fn times(rt: &HostRuntime, stars: u32) -> io::Result<()> {
+// With so many stars, on a text of four letters and a path of four segments for each of `fours`.
+fn times(rt: &HostRuntime, stars: u32, fours: u32) -> io::Result<()> {
     let alloc = rt.alloc();
     let pattern = repeated(alloc, "a*", stars, "b")?;
     let segments = repeated(alloc, "a/**/", stars, "b")?;
-    let text = repeated(alloc, "aaaa", stars, "")?;
-    let path = repeated(alloc, "a/a/a/a/", stars, "c")?;
+    let text = repeated(alloc, "aaaa", fours, "")?;
+    let path = repeated(alloc, "a/a/a/a/", fours, "c")?;
     let start = Instant::now(rt)?;
     let by_wild = wild(&pattern, &text);
     let wild_time = micros(rt, start)?;
@@ -62,13 +64,14 @@ fn times(rt: &HostRuntime, stars: u32) -> io::Result<()> {
         }
     }
     let captures_time = micros(rt, start)?;
-    println!(rt; "{stars} stars: wild {by_wild} {wild_time} us, one star and {stars} letters {by_one_star} {one_star_time} us, ant {by_ant} {ant_time} us, captures {found} {captures_time} us")
+    println!(rt; "{stars} stars on {fours} times four letters: wild {by_wild} {wild_time} us, one star and {stars} letters {by_one_star} {one_star_time} us, ant {by_ant} {ant_time} us, captures {found} {captures_time} us")
 }
 
 fn main(rt: HostRuntime) -> io::Result<()> {
     for stars in [100, 200, 400, 800, 1600] {
-        times(&rt, stars)?;
+        times(&rt, stars, stars)?;
     }
+    times(&rt, 1000, 25_000)?;
     Ok(())
 }
 PROGRAM
