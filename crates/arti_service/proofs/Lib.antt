@@ -1,3 +1,4 @@
 mod Deploys
 mod Pieces
 mod Talks
+mod Stops

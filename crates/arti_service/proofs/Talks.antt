@@ -71,6 +71,20 @@ module _ (limits : Limits) (most : ℕ) (moments : List ℤ) (r : Repository) (i
       pub turns : head.last ≡ false → TakesTurn limits most moments moments' r r' input input' told told'
       turns last = record {
         some = some;
+        one = (
+          reply,
+          record {
+            request = q;
+            some = some;
+            begins = at_body;
+            goes_on = last;
+            replies = inl refl;
+            most = refl;
+            moments = one.clock_is;
+            repository = one.store_is;
+          },
+          one.told_is,
+        );
         goes_on = λ e bytes after rest_of.
             let later = subst (λ (s : Repository). IsAnswered limits (most - 1) (drop 1 moments) s input' e bytes after) one.store_is
             (subst (λ (m : List ℤ). IsAnswered limits (most - 1) m r' input' e bytes after) one.clock_is rest_of) in (

@@ -6,6 +6,7 @@ use Rattle.arti_model.specs.Requests.{Whole, RequestBytes}
 use Rattle.arti_model.specs.Store.{Repository}
 use Rattle.arti_model.specs.Run.{first_of, AnswersAll, repository_after}
 use Rattle.arti_model.specs.Step.{step}
+use Rattle.arti_service.specs.Cuts.{AnswersFirst}
 use Rattle.arti_service.specs.declared.conversation.Ending.{Ending}
 use Rattle.arti_service.specs.declared.conversation.Ending.TheVariants.{End, Cut, Bad, TooMany, Disk, Tell, Source, Memory}
 
@@ -37,6 +38,8 @@ pub record TakesTurn (limits : Limits) (most : ℕ) (moments moments' : List ℤ
   pub goes_on : (ending : model.Ending) (bytes : List ℕ) (after : Repository) → IsAnswered limits (most - 1) moments' r' input' ending bytes after
       → (all : List ℕ) × IsAnswered limits most moments r input ending all after × (told' ++ bytes ≡ told ++ all)
   pub some : 0 < most
+  pub one : (reply : List ℕ) × AnswersFirst limits (record { most = most; moments = moments; repository = r; input = input }) reply (record { most = most - 1; moments = moments'; repository = r'; input = input' })
+      × (told' ≡ told ++ reply)
 
 -- the request of a head was read whole and answered: n bytes of the input are its body
 pub record AnswersOne (limits : Limits) (moments moments' : List ℤ) (r r' : Repository) (head : model.Request) (n : ℕ) (input input' : List ℕ) (told told' : List ℕ) : Type 0 where

@@ -1,7 +1,8 @@
 // One request is answered.
-ghost use Rattle.std.specs.Prelude.{◌≡◌, ◌≢◌, ◌++◌, OnOk, IfOk, IsErrOf, Err, Some};
+ghost use Rattle.std.specs.Prelude.{◌≡◌, ◌≢◌, ◌++◌, OnOk, IfOk, IfErr, IsErrOf, Err, Some};
 ghost use Rattle.arti_ground.specs.State.{LeavesDisk, Rose};
 ghost use Rattle.arti_model.specs.Step.{step, deploy, fetch, not_yet, item_asked};
+ghost use Rattle.arti_service.specs.Cuts.{StoppedAt, StopsTelling};
 
 use crate::ask::{has_method, item_asked};
 use crate::replies;
@@ -47,7 +48,8 @@ impl From<Failed> for Stop {
 
 // Tells that a request isn't built yet.
 fn answer_not_yet<G: Ground>(alloc: Global, ground: &mut G, line: u32) -> Result<(), Stop>
-    ensures told { G.tells → OnOk result ((r : Repository) → (G.state ground.new).told line ≡ (G.state ground.old).told line ++ (not_yet r).reply) }
+    ensures told { G.tells → (r : Repository) → OnOk result ((G.state ground.new).told line ≡ (G.state ground.old).told line ++ (not_yet r).reply) }
+    ensures stops { G.tells → (r : Repository) → IfErr result (λ stop. StoppedAt stop (not_yet r) ((G.state ground.old).told line) ((G.state ground.new).told line) r r) }
     ensures tell_fault { IsErrOf result Stop.Tell → Rose (G.tell_faults ground.old line) (G.tell_faults ground.new line) }
     ensures quiet { result ≢ Err Stop.Tell → G.tell_faults ground.new ≡ G.tell_faults ground.old }
     ensures no_disk { result ≢ Err Stop.Disk }
@@ -72,6 +74,7 @@ fn answer_deploy<G: Ground>(
 ) -> Result<(), Stop>
     ensures told { G.tells → OnOk result ((G.state ground.new).told line ≡ (G.state ground.old).told line ++ (deploy limits.now store.old moment key content.items).reply) }
     ensures repository { OnOk result (store.new ≡ (deploy limits.now store.old moment key content.items).repository) }
+    ensures stops { G.tells → IfErr result (λ stop. StoppedAt stop (deploy limits.now store.old moment key content.items) ((G.state ground.old).told line) ((G.state ground.new).told line) store.old store.new) }
     ensures tell_fault { IsErrOf result Stop.Tell → Rose (G.tell_faults ground.old line) (G.tell_faults ground.new line) }
     ensures quiet { result ≢ Err Stop.Tell → G.tell_faults ground.new ≡ G.tell_faults ground.old }
     ensures no_disk { result ≢ Err Stop.Disk }
@@ -83,6 +86,26 @@ fn answer_deploy<G: Ground>(
     Ok(())
 }
 
+// Tells the two parts of one reply.
+fn tell_parts<G: Ground>(ground: &mut G, line: u32, first: &[u8], second: &[u8]) -> Result<(), Stop>
+    ensures told { G.tells → OnOk result ((G.state ground.new).told line ≡ (G.state ground.old).told line ++ (first.now ++ second.now)) }
+    ensures stops { G.tells → IfErr result (λ stop. StopsTelling stop (first.now ++ second.now) ((G.state ground.old).told line) ((G.state ground.new).told line)) }
+    ensures tell_fault { IsErrOf result Stop.Tell → Rose (G.tell_faults ground.old line) (G.tell_faults ground.new line) }
+    ensures quiet { result ≢ Err Stop.Tell → G.tell_faults ground.new ≡ G.tell_faults ground.old }
+    ensures no_disk { result ≢ Err Stop.Disk }
+    ensures disk_faults { G.disk_faults ground.new ≡ G.disk_faults ground.old }
+    ensures disk { G.tells → LeavesDisk (G.state ground.old) (G.state ground.new) }
+{
+    match ground.tell(line, first) {
+        Err(Failed) => return Err(Stop::Tell),
+        Ok(()) => {}
+    }
+    match ground.tell(line, second) {
+        Err(Failed) => Err(Stop::Tell),
+        Ok(()) => Ok(()),
+    }
+}
+
 // Tells a file's content, or that there is none.
 fn answer_fetch<G: Ground>(
     alloc: Global,
@@ -92,6 +115,7 @@ fn answer_fetch<G: Ground>(
     key: &ItemKey,
 ) -> Result<(), Stop>
     ensures told { G.tells → OnOk result ((G.state ground.new).told line ≡ (G.state ground.old).told line ++ (fetch store.now key.now).reply) }
+    ensures stops { G.tells → IfErr result (λ stop. StoppedAt stop (fetch store.now key.now) ((G.state ground.old).told line) ((G.state ground.new).told line) store.now store.now) }
     ensures tell_fault { IsErrOf result Stop.Tell → Rose (G.tell_faults ground.old line) (G.tell_faults ground.new line) }
     ensures quiet { result ≢ Err Stop.Tell → G.tell_faults ground.new ≡ G.tell_faults ground.old }
     ensures no_disk { result ≢ Err Stop.Disk }
@@ -101,9 +125,7 @@ fn answer_fetch<G: Ground>(
     match store.file(key) {
         Some(found) => {
             let head = replies::content_head(alloc, &found.digests, found.content.len() as u64)?;
-            ground.tell(line, &head)?;
-            ground.tell(line, found.content)?;
-            Ok(())
+            tell_parts(ground, line, &head, found.content)
         }
         None => {
             let reply = replies::missing_item(alloc, key)?;
@@ -161,6 +183,7 @@ fn answer_asked<G: Ground>(
 ) -> Result<(), Stop>
     ensures told { G.tells → OnOk result ((G.state ground.new).told line ≡ (G.state ground.old).told line ++ (answer_to asked limits.now store.old body.items moment).reply) }
     ensures repository { OnOk result (store.new ≡ (answer_to asked limits.now store.old body.items moment).repository) }
+    ensures stops { G.tells → IfErr result (λ stop. StoppedAt stop (answer_to asked limits.now store.old body.items moment) ((G.state ground.old).told line) ((G.state ground.new).told line) store.old store.new) }
     ensures tell_fault { IsErrOf result Stop.Tell → Rose (G.tell_faults ground.old line) (G.tell_faults ground.new line) }
     ensures quiet { result ≢ Err Stop.Tell → G.tell_faults ground.new ≡ G.tell_faults ground.old }
     ensures no_disk { result ≢ Err Stop.Disk }
@@ -169,17 +192,10 @@ fn answer_asked<G: Ground>(
 {
     match asked {
         Asked::Deploy(key) => {
-            answer_deploy(alloc, store, ground, line, limits, moment, key, body)?;
-            Ok(())
+            answer_deploy(alloc, store, ground, line, limits, moment, key, body)
         }
-        Asked::Fetch(key) => {
-            answer_fetch(alloc, store, ground, line, &key)?;
-            Ok(())
-        }
-        Asked::NotBuilt => {
-            answer_not_yet(alloc, ground, line)?;
-            Ok(())
-        }
+        Asked::Fetch(key) => answer_fetch(alloc, store, ground, line, &key),
+        Asked::NotBuilt => answer_not_yet(alloc, ground, line),
     }
 }
 
@@ -197,6 +213,7 @@ pub fn answer<G: Ground>(
     ensures told { G.tells → OnOk result ((G.state ground.new).told line ≡ (G.state ground.old).told line
         ++ (step limits.now store.old (record { head = request.now; body = body.items }) moment).reply) }
     ensures repository { OnOk result (store.new ≡ (step limits.now store.old (record { head = request.now; body = body.items }) moment).repository) }
+    ensures stops { G.tells → IfErr result (λ stop. StoppedAt stop (step limits.now store.old (record { head = request.now; body = body.items }) moment) ((G.state ground.old).told line) ((G.state ground.new).told line) store.old store.new) }
     ensures tell_fault { IsErrOf result Stop.Tell → Rose (G.tell_faults ground.old line) (G.tell_faults ground.new line) }
     ensures quiet { result ≢ Err Stop.Tell → G.tell_faults ground.new ≡ G.tell_faults ground.old }
     ensures no_disk { result ≢ Err Stop.Disk }
@@ -204,6 +221,5 @@ pub fn answer<G: Ground>(
     ensures disk { G.tells → LeavesDisk (G.state ground.old) (G.state ground.new) }
 {
     let asked = ask_of(alloc, request)?;
-    answer_asked(alloc, store, ground, line, limits, asked, body, moment)?;
-    Ok(())
+    answer_asked(alloc, store, ground, line, limits, asked, body, moment)
 }

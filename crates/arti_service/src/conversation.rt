@@ -7,6 +7,7 @@ ghost use Rattle.arti_model.specs.Run.{error_reply};
 ghost use Rattle.arti_service.specs.Bodies.{IsBodyOf, LeavesPhase};
 ghost use Rattle.arti_model.specs.Requests.{Begins, Head};
 ghost use Rattle.arti_service.specs.Talk.{AtStreamEnd, Answers, TakesTurn, AnswersOne, CutsShort};
+ghost use Rattle.arti_service.specs.Cuts.{TellsFront, StopsSo, Stops, StopsInOne, StopsTelling, StopsBad, EndsFor};
 ghost use Rattle.arti_service.specs.Endings.{IsFault, IsCutOrFault};
 
 use crate::answering::{Stop, answer};
@@ -75,6 +76,7 @@ fn error_text(alloc: Global, why: Why) -> Result<Vec<u8>, AllocError>
 // Tells that the bytes are no request.
 fn tell_bad<G: Ground>(alloc: Global, ground: &mut G, line: u32, why: Why) -> Result<(), Stop>
     ensures told { G.tells → OnOk result ((G.state ground.new).told line ≡ (G.state ground.old).told line ++ error_reply why) }
+    ensures stops { G.tells → IfErr result (λ stop. StopsTelling stop (error_reply why) ((G.state ground.old).told line) ((G.state ground.new).told line)) }
     ensures tell_fault { IsErrOf result Stop.Tell → Rose (G.tell_faults ground.old line) (G.tell_faults ground.new line) }
     ensures quiet { result ≢ Err Stop.Tell → G.tell_faults ground.new ≡ G.tell_faults ground.old }
     ensures no_disk { result ≢ Err Stop.Disk }
@@ -93,6 +95,7 @@ fn ending_of(stop: Stop) -> Ending
     ensures not_tell { result ≢ Ending.Tell → stop ≢ Stop.Tell }
     ensures fault { IsFault result }
     ensures source { result ≢ Ending.Source }
+    ensures stop { EndsFor stop result }
 {
     match stop {
         Stop::Disk => unreachable!(),
@@ -119,6 +122,8 @@ fn answer_next<G: Ground, S: Source, C: Clock>(
     ensures one { G.tells → S.tells → C.tells → OnOk result (AnswersOne limits.now (C.moments clock.old) (C.moments clock.new) store.old store.new request.now (body_left wire.old.phase)
         (wire.old.ahead ++ S.left source.old) (wire.new.ahead ++ S.left source.new) ((G.state ground.old).told line) ((G.state ground.new).told line)) }
     ensures cut { G.tells → S.tells → IsErrOf result Ending.Cut → CutsShort (body_left wire.old.phase) (wire.old.ahead ++ S.left source.old) store.old store.new ((G.state ground.old).told line) ((G.state ground.new).told line) }
+    ensures stops { G.tells → S.tells → C.tells → IfErr result (λ ending. StopsInOne ending limits.now (C.moments clock.old) store.old store.new request.now (body_left wire.old.phase)
+        (wire.old.ahead ++ S.left source.old) ((G.state ground.old).told line) ((G.state ground.new).told line)) }
     ensures phase { OnOk result (wire.new.phase ≡ Between) }
     ensures ends { IfErr result IsCutOrFault }
     ensures tell_fault { IsErrOf result Ending.Tell → Rose (G.tell_faults ground.old line) (G.tell_faults ground.new line) }
@@ -162,6 +167,8 @@ fn turn_on<G: Ground, S: Source, C: Clock>(
         → OnOk result (TakesTurn limits.now most (C.moments clock.old) (C.moments clock.new) store.old store.new input (wire.new.ahead ++ S.left source.new) ((G.state ground.old).told line) ((G.state ground.new).told line)) }
     ensures ends { G.tells → S.tells → C.tells → (input : List ℕ) → Begins limits.now.content input (Head request.now (body_left wire.old.phase) (wire.old.ahead ++ S.left source.old))
         → IfErr result (λ ending. AtStreamEnd ending (Answers limits.now most (C.moments clock.old) store.old input ((G.state ground.old).told line) ((G.state ground.new).told line) store.new)) }
+    ensures stops { G.tells → S.tells → C.tells → (input : List ℕ) → Begins limits.now.content input (Head request.now (body_left wire.old.phase) (wire.old.ahead ++ S.left source.old))
+        → IfErr result (λ ending. StopsSo ending limits.now (record { most = most; moments = C.moments clock.old; repository = store.old; input = input }) ((G.state ground.old).told line) ((G.state ground.new).told line) store.new) }
     ensures phase { OnOk result (wire.new.phase ≡ Between) }
     ensures tell_fault { IsErrOf result Ending.Tell → Rose (G.tell_faults ground.old line) (G.tell_faults ground.new line) }
     ensures quiet { result ≢ Err Ending.Tell → G.tell_faults ground.new ≡ G.tell_faults ground.old }
@@ -189,6 +196,7 @@ fn turn_on<G: Ground, S: Source, C: Clock>(
 fn end_bad<G: Ground>(alloc: Global, ground: &mut G, line: u32, why: Why) -> Ending
     ensures bad { result ≡ Ending.Bad why ⊎ IsFault result }
     ensures told { G.tells → result ≡ Ending.Bad why → (G.state ground.new).told line ≡ (G.state ground.old).told line ++ error_reply why }
+    ensures stops { G.tells → StopsBad result why ((G.state ground.old).told line) ((G.state ground.new).told line) }
     ensures tell_fault { result ≡ Ending.Tell → Rose (G.tell_faults ground.old line) (G.tell_faults ground.new line) }
     ensures quiet { result ≢ Ending.Tell → G.tell_faults ground.new ≡ G.tell_faults ground.old }
     ensures source { result ≢ Ending.Source }
@@ -220,6 +228,7 @@ fn turn<G: Ground, S: Source, C: Clock>(
         (wire.old.ahead ++ S.left source.old) (wire.new.ahead ++ S.left source.new) ((G.state ground.old).told line) ((G.state ground.new).told line)) }
     ensures ends { G.tells → S.tells → C.tells → IfErr result (λ ending. AtStreamEnd ending (Answers limits.now most (C.moments clock.old) store.old (wire.old.ahead ++ S.left source.old)
         ((G.state ground.old).told line) ((G.state ground.new).told line) store.new)) }
+    ensures stops { G.tells → S.tells → C.tells → IfErr result (λ ending. StopsSo ending limits.now (record { most = most; moments = C.moments clock.old; repository = store.old; input = wire.old.ahead ++ S.left source.old }) ((G.state ground.old).told line) ((G.state ground.new).told line) store.new) }
     ensures some { OnOk result (0 < most) }
     ensures phase { OnOk result (wire.new.phase ≡ Between) }
     ensures tell_fault { IsErrOf result Ending.Tell → Rose (G.tell_faults ground.old line) (G.tell_faults ground.new line) }
@@ -271,6 +280,8 @@ pub fn converse<G: Ground, S: Source, U: Upstream, C: Clock, L: Ledger>(
 ) -> Ending
     ensures answers { G.tells → S.tells → C.tells → AtStreamEnd result (Answers limits.now limits.now.requests (C.moments clock.old) store.old (S.left source.old)
         ((G.state ground.old).told line) ((G.state ground.new).told line) store.new) }
+    ensures stops { G.tells → S.tells → C.tells → Stops result limits.now (record { most = limits.now.requests; moments = C.moments clock.old; repository = store.old; input = S.left source.old })
+        ((G.state ground.old).told line) ((G.state ground.new).told line) store.new }
     ensures tell_fault { result ≡ Ending.Tell → Rose (G.tell_faults ground.old line) (G.tell_faults ground.new line) }
     ensures quiet { result ≢ Ending.Tell → G.tell_faults ground.new ≡ G.tell_faults ground.old }
     ensures source_fault { result ≡ Ending.Source → Rose (S.faults source.old) (S.faults source.new) }

@@ -7,6 +7,7 @@ use Rattle.arti_model.specs.Requests as model
 use Rattle.arti_model.specs.Store.{Repository}
 use Rattle.arti_service.specs.Talk.{IsAnswered, AtStreamEnd, Answers, TakesTurn}
 use Rattle.arti_service.proofs.Talks.{goes_through, starts_so, goes_so, leaves_then}
+use Rattle.arti_service.proofs.Stops.{none_so_far, one_more, behind, at_once}
 use Rattle.arti_service.proofs.conversation.converse.Goals as goal
 
 pub requests-init : goal.requests-init
@@ -16,6 +17,8 @@ requests-init g c = record {
   talk = λ gt st ct e bytes after a.
       starts_so c.args.limits.now c.args.limits.now.requests (g.C.Clock.moments c.args.clock.now) c.args.store.now c.in-Ok.wire.ahead (g.S.Source.left c.args.source.now)
       ((g.G.Ground.state c.args.ground.now).told c.args.line) e bytes after c.in-Ok.ensures.ahead a;
+  so_far = λ gt st ct. none_so_far c.args.limits.now c.args.limits.now.requests (g.C.Clock.moments c.args.clock.now) c.args.store.now c.in-Ok.wire.ahead (g.S.Source.left c.args.source.now)
+      ((g.G.Ground.state c.args.ground.now).told c.args.line) c.in-Ok.ensures.ahead;
   tell_faults = refl;
   disk_faults = refl;
   source_faults = refl;
@@ -38,6 +41,7 @@ requests-preserved g c =
           ((g.G.Ground.state c.requests.ground).told c.args.line) ((g.G.Ground.state c.turn-turned.new.ground).told c.args.line)
           c.args.limits.now.requests (g.C.Clock.moments c.args.clock.now) c.args.store.now (g.S.Source.left c.args.source.now) ((g.G.Ground.state c.args.ground.now).told c.args.line)
           (turned.turns gt st ct) (before.talk gt st ct) e bytes after a;
+      so_far = λ gt st ct. one_more c.args.limits.now _ _ _ _ _ _ (before.so_far gt st ct) (turned.turns gt st ct).one;
       tell_faults = turned.quiet (λ e. cc) ∙ before.tell_faults;
       disk_faults = turned.disk_faults ∙ before.disk_faults;
       source_faults = turned.source_quiet (λ e. cc) ∙ before.source_faults;
@@ -69,3 +73,14 @@ returns-in-Err-clause-source_quiet g c = λ other. c.in-Err.ensures.source_quiet
 pub returns-in-Err-clause-disk : goal.returns-in-Err-clause-disk
 returns-in-Err-clause-disk g c = λ gt.
     leaves_then (g.G.Ground.state c.args.ground.now) (g.G.Ground.state c.requests.ground) (g.G.Ground.state c.turn-turned.new.ground) (c.requests.invariant.disk gt) (c.in-Err.ensures.disk gt)
+
+pub returns-in-Err-clause-stops : goal.returns-in-Err-clause-stops
+returns-in-Err-clause-stops g c = λ gt st ct.
+    let so_far = c.requests.invariant.so_far gt st ct in
+    behind c.in-Err.ending c.args.limits.now _ _ so_far.0 _ _ _ _ so_far.1 so_far.2 (c.in-Err.ensures.stops gt st ct)
+
+pub returns-in_default-clause-stops : goal.returns-in_default-clause-stops
+returns-in_default-clause-stops g c = λ gt st ct. at_once c.args.limits.now _ _
+
+pub returns-in_default-vec-clause-stops : goal.returns-in_default-vec-clause-stops
+returns-in_default-vec-clause-stops g c = λ gt st ct. at_once c.args.limits.now _ _

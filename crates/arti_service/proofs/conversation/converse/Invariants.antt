@@ -4,6 +4,7 @@ use Rattle.arti_model.specs.Requests as model
 use Rattle.arti_model.specs.Store.{Repository}
 use Rattle.arti_wire.specs.declared.wire.Phase.TheVariants.{Between}
 use Rattle.arti_service.specs.Talk.{IsAnswered}
+use Rattle.arti_service.proofs.Stops.{SoFar}
 use Rattle.arti_service.proofs.conversation.converse.Given as goal
 
 abbrev pub invariant-requests : goal.invariant-requests
@@ -16,6 +17,9 @@ invariant-requests g l =
           → IsAnswered l.limits l.most (g.C.Clock.moments l.clock) l.store (l.wire.ahead ++ g.S.Source.left l.source) ending bytes after
           → (all : List ℕ) × IsAnswered l.limits l.limits.requests (g.C.Clock.moments l.fn.clock) l.fn.store (g.S.Source.left l.fn.source) ending all after
           × ((state l.ground).told l.line ++ bytes ≡ (state l.fn.ground).told l.line ++ all);
+      so_far : g.G.Ground.tells → g.S.Source.tells → g.C.Clock.tells
+          → SoFar l.limits (record { most = l.limits.requests; moments = g.C.Clock.moments l.fn.clock; repository = l.fn.store; input = g.S.Source.left l.fn.source }) ((state l.fn.ground).told l.line)
+          (record { most = l.most; moments = g.C.Clock.moments l.clock; repository = l.store; input = l.wire.ahead ++ g.S.Source.left l.source }) ((state l.ground).told l.line);
       tell_faults : g.G.Ground.tell_faults l.ground ≡ g.G.Ground.tell_faults l.fn.ground;
       disk_faults : g.G.Ground.disk_faults l.ground ≡ g.G.Ground.disk_faults l.fn.ground;
       source_faults : g.S.Source.faults l.source ≡ g.S.Source.faults l.fn.source;

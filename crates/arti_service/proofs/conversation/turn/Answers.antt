@@ -5,6 +5,7 @@ use Rattle.arti_wire.specs.Framing.{AnswersStart, body_left}
 use Rattle.arti_wire.specs.declared.wire.NextHead.{NextHead}
 use Rattle.std.proofs.Common.{subst}
 use Rattle.arti_service.proofs.Talks.{too_many, ends_untold}
+use Rattle.arti_service.proofs.Stops.{in_bad}
 use Rattle.arti_service.proofs.conversation.turn.Goals as goal
 
 pub returns-then-most-eq0-clause-ends : goal.returns-then-most-eq0-clause-ends
@@ -37,3 +38,15 @@ pub returns-else-most-eq0-3-clause-ends : goal.returns-else-most-eq0-3-clause-en
 returns-else-most-eq0-3-clause-ends g c = λ gt st ct.
     let input : List ℕ = c.args.wire.now.ahead ++ g.S.Source.left c.args.source.now in
     c.turn_on.ensures.ends gt st ct input (subst (λ (x : NextHead). AnswersStart c.args.limits.now.content input x c.next_head.new.self.phase (c.next_head.new.self.ahead ++ g.S.Source.left c.next_head.new.source)) c.in-Ok-Head.field-0-is (c.in-Ok-Head.ensures.starts st))
+
+pub returns-else-most-eq0-2-clause-stops : goal.returns-else-most-eq0-2-clause-stops
+returns-else-most-eq0-2-clause-stops g c = λ gt st ct.
+    let input : List ℕ = c.args.wire.now.ahead ++ g.S.Source.left c.args.source.now in
+    let some : 0 < c.args.most = omega arith in
+    in_bad c.args.limits.now (record { most = c.args.most; moments = g.C.Clock.moments c.args.clock.now; repository = c.args.store.now; input = input }) c.in-Ok-Bad.why _ _ _ some
+    (subst (λ (x : NextHead). AnswersStart c.args.limits.now.content input x c.next_head.new.self.phase (c.next_head.new.self.ahead ++ g.S.Source.left c.next_head.new.source)) c.in-Ok-Bad.field-0-is (c.in-Ok-Bad.ensures.starts st)) (c.end_bad.ensures.stops gt)
+
+pub returns-else-most-eq0-3-clause-stops : goal.returns-else-most-eq0-3-clause-stops
+returns-else-most-eq0-3-clause-stops g c = λ gt st ct.
+    let input : List ℕ = c.args.wire.now.ahead ++ g.S.Source.left c.args.source.now in
+    c.turn_on.ensures.stops gt st ct input (subst (λ (x : NextHead). AnswersStart c.args.limits.now.content input x c.next_head.new.self.phase (c.next_head.new.self.ahead ++ g.S.Source.left c.next_head.new.source)) c.in-Ok-Head.field-0-is (c.in-Ok-Head.ensures.starts st))

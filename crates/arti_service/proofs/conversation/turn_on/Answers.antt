@@ -5,6 +5,7 @@ use Rattle.std.proofs.Common.{List, ℕ, ◌++◌}
 use Rattle.arti_service.specs.Talk.{Answers}
 use Rattle.arti_service.specs.declared.conversation.Ending.{Ending}
 use Rattle.arti_service.proofs.Talks.{ends_in_body, ends_at_last, turns, cut_end}
+use Rattle.arti_service.proofs.Stops.{in_one}
 use Rattle.arti_service.proofs.conversation.turn_on.Goals as goal
 
 pub returns-in-Err-clause-ends : goal.returns-in-Err-clause-ends
@@ -49,3 +50,8 @@ returns-else-last-clause-turns g c = λ gt st ct input begins.
     let input' : List ℕ = c.answer_next.new.wire.ahead ++ g.S.Source.left c.answer_next.new.source in
     let last : c.args.request.now.last ≡ false = search rules in
     turns limits most moments r input c.args.request.now n rest c.requires.some begins moments' c.answer_next.new.store input' told told' (c.in-Ok.ensures.one gt st ct) last
+
+pub returns-in-Err-clause-stops : goal.returns-in-Err-clause-stops
+returns-in-Err-clause-stops g c = λ gt st ct input begins.
+    in_one c.args.limits.now c.args.most (g.C.Clock.moments c.args.clock.now) c.args.store.now c.answer_next.new.store input c.args.request.now (body_left c.args.wire.now.phase)
+    (c.args.wire.now.ahead ++ g.S.Source.left c.args.source.now) _ _ c.in-Err.ending c.requires.some begins (c.in-Err.ensures.stops gt st ct)
