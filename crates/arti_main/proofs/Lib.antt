@@ -1,0 +1,2 @@
+mod Completes
+mod Numbers

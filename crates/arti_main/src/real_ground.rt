@@ -1,0 +1,153 @@
+// The files of a folder and an output stream as a ground. It tells nothing of what they hold.
+ghost use Rattle.std.specs.Prelude.{◌≤◌, ◌<◌, ◌^◌, length, IfOk};
+
+use crate::real_file::RealFile;
+use arti_ground::{Failed, Ground};
+use std::alloc::{AllocError, Global};
+use std::fs;
+use std::fs::OpenFile;
+use std::io::Write;
+
+/// The files 0 to 5 of a folder, and one stream for all lines. Its counts of faults stop at their greatest value.
+#[derive(Drop)]
+pub struct RealGround<W: Write + Drop> {
+    rt: HostRuntime,
+    folder: String,
+    files: [RealFile; 6],
+    made: bool,
+    out: W,
+    disk_faults: u64,
+    tell_faults: u64,
+}
+
+// What was written to the files reaches the device.
+fn sync_files(files: &mut [RealFile; 6]) -> Result<(), Failed> {
+    for file in files.iter_mut() {
+        file.sync()?;
+    }
+    Ok(())
+}
+
+// The names of the files in a folder reach the device.
+fn sync_folder(rt: &HostRuntime, folder: &str) -> Result<(), Failed> {
+    match fs::open(rt, folder) {
+        Ok(folder) => folder.sync_all().map_err(|_| Failed),
+        Err(_) => Err(Failed),
+    }
+}
+
+// All that was written reaches the device; `made` tells whether a file was made since it last did.
+fn sync_all(
+    rt: &HostRuntime,
+    folder: &str,
+    files: &mut [RealFile; 6],
+    made: &mut bool,
+) -> Result<(), Failed> {
+    sync_files(files)?;
+    if *made {
+        sync_folder(rt, folder)?;
+        *made = false;
+    }
+    Ok(())
+}
+
+impl<W: Write + Drop> RealGround<W> {
+    /// The ground of a folder. Nothing is opened yet.
+    pub fn new(
+        rt: &HostRuntime,
+        alloc: Global,
+        folder: &str,
+        out: W,
+    ) -> Result<RealGround<W>, AllocError> {
+        Ok(RealGround {
+            rt: rt.clone()?,
+            folder: String::from_str(alloc, folder)?,
+            files: [
+                RealFile::new(alloc, folder, 0)?,
+                RealFile::new(alloc, folder, 1)?,
+                RealFile::new(alloc, folder, 2)?,
+                RealFile::new(alloc, folder, 3)?,
+                RealFile::new(alloc, folder, 4)?,
+                RealFile::new(alloc, folder, 5)?,
+            ],
+            made: false,
+            out,
+            disk_faults: 0,
+            tell_faults: 0,
+        })
+    }
+}
+
+impl<W: Write + Drop> Ground for RealGround<W> {
+    ghost use Rattle.arti_ground.specs.State.{State, Holds, Torn, Cut, In, Tells, TellsSome, Reads, Follows, IsDurable, LeavesDisk, DiskTime, TellTime, IsSound, HasCause};
+    ghost use Rattle.arti_ground.specs.Record.{fresh};
+    ghost use Rattle.std.specs.Prelude.{[]};
+
+    ghost tells = { ⊥ };
+
+    ghost state = { λ _. fresh [] };
+
+    ghost disk_faults = { λ g. g.disk_faults };
+
+    ghost tell_faults = { λ g line. g.tell_faults };
+
+    ghost sound = { λ _ never. absurd never };
+
+    fn read(&mut self, file: u32, at: u64, buf: &mut [u8]) -> Result<usize, Failed> {
+        let outcome = self.files[file as usize].read(&self.rt, at, buf);
+        if outcome.is_err() {
+            self.disk_faults = self.disk_faults.saturating_add(1);
+        }
+        outcome
+    }
+
+    fn length(&mut self, file: u32) -> Result<u64, Failed> {
+        let outcome = self.files[file as usize].length(&self.rt);
+        if outcome.is_err() {
+            self.disk_faults = self.disk_faults.saturating_add(1);
+        }
+        outcome
+    }
+
+    fn write_at(&mut self, file: u32, at: u64, bytes: &[u8]) -> Result<(), Failed> {
+        match self.files[file as usize].write_at(&self.rt, at, bytes) {
+            Ok(made) => {
+                self.made |= made;
+                Ok(())
+            }
+            Err(Failed) => {
+                self.disk_faults = self.disk_faults.saturating_add(1);
+                Err(Failed)
+            }
+        }
+    }
+
+    fn cut(&mut self, file: u32, len: u64) -> Result<(), Failed> {
+        let outcome = self.files[file as usize].cut(&self.rt, len);
+        if outcome.is_err() {
+            self.disk_faults = self.disk_faults.saturating_add(1);
+        }
+        outcome
+    }
+
+    fn sync(&mut self) -> Result<(), Failed> {
+        let outcome = sync_all(
+            &self.rt,
+            self.folder.as_str(),
+            &mut self.files,
+            &mut self.made,
+        );
+        if outcome.is_err() {
+            self.disk_faults = self.disk_faults.saturating_add(1);
+        }
+        outcome
+    }
+
+    fn tell(&mut self, _line: u32, bytes: &[u8]) -> Result<(), Failed> {
+        let outcome = self.out.write_all(bytes).map_err(|_| Failed);
+        if outcome.is_err() {
+            self.tell_faults = self.tell_faults.saturating_add(1);
+        }
+        outcome
+    }
+}

@@ -1,0 +1,161 @@
+// The top call against bytes that come from outside.
+ghost use Rattle.std.specs.Prelude.{◌≡◌, ◌<◌};
+
+use crate::top::{Status, run};
+use arti_ground::{ListClock, ListUpstream, MemoryGround, MemorySource, Steps};
+use arti_rows::Limits;
+use std::alloc::{AllocError, Global};
+use std::marker::Brand;
+use std::process::Abort;
+use std::sync::ledger::{Blank, Ledger};
+use std::test::Fail;
+
+const PUT: &[u8] =
+    b"PUT /generic-local/a/b.txt HTTP/1.1\r\nHost: x\r\nContent-Length: 3\r\n\r\nabc";
+
+const GET: &[u8] = b"GET /generic-local/a/b.txt HTTP/1.1\r\nHost: x\r\n\r\n";
+
+const CREATED: &[u8] =
+    b"HTTP/1.1 201 Created\r\nContent-Type: application/json\r\nContent-Length: 295\r\n\r\n{\"repo\":\"generic-local\",\"path\":\"/a/b.txt\",\"created\":\"1970-01-01T00:00:00.000Z\",\"createdBy\":\"anonymous\",\"size\":\"3\",\"checksums\":{\"md5\":\"900150983cd24fb0d6963f7d28e17f72\",\"sha1\":\"a9993e364706816aba3e25717850c26c9cd0d89d\",\"sha256\":\"ba7816bf8f01cfea414140de5dae2223b00361a396177a9cb410ff61f20015ad\"}}";
+
+const FETCHED: &[u8] =
+    b"HTTP/1.1 200 OK\r\nContent-Type: application/octet-stream\r\nX-Checksum-Md5: 900150983cd24fb0d6963f7d28e17f72\r\nX-Checksum-Sha1: a9993e364706816aba3e25717850c26c9cd0d89d\r\nX-Checksum-Sha256: ba7816bf8f01cfea414140de5dae2223b00361a396177a9cb410ff61f20015ad\r\nContent-Length: 3\r\n\r\nabc";
+
+// Words as strings of their own.
+fn words_of(alloc: Global, words: &[&str]) -> Result<Vec<String>, AllocError> {
+    let mut owned = Vec::new(alloc);
+    for word in words {
+        owned.push(String::from_str(alloc, word)?)?;
+    }
+    Ok(owned)
+}
+
+// What a run told on a new store, and its status. Each of the first reads takes that many bytes.
+fn told_by<L: Ledger>(
+    rt: &HostRuntime,
+    words: &[&str],
+    input: Vec<u8>,
+    sizes: Vec<usize>,
+    blank: Blank,
+) -> Result<(Vec<u8>, Status), AllocError>
+    requires name { blank.name ≡ L.name }
+    requires parts { blank.parts ≡ L.parts }
+    requires some { 0 < blank.parts }
+    requires sizes { All (λ n. 1 ≤ n) sizes.items }
+{
+    let alloc = rt.alloc();
+    let mut ground = MemoryGround::new(alloc, 100, 10_000)?;
+    let mut source = MemorySource::new(input, sizes, Vec::new(alloc));
+    let mut upstream = ListUpstream::new(Vec::new(alloc));
+    let mut clock = ListClock::new(Vec::new(alloc));
+    let mut steps = Steps::<L>::open(blank);
+    let words = words_of(alloc, words)?;
+    let status = run(
+        rt,
+        alloc,
+        &words,
+        &Limits::standard(),
+        &mut ground,
+        &mut source,
+        &mut upstream,
+        &mut clock,
+        &mut steps,
+    );
+    Ok((ground.told(alloc, 0)?, status))
+}
+
+ghost use Rattle.std.specs.Prelude.{◌≤◌, All};
+
+const REPLAY: &[&str] = &["replay", "--start", "0"];
+
+// The deploy and the fetch behind it.
+fn first_deploy(alloc: Global) -> Result<Vec<u8>, AllocError> {
+    let mut input = PUT.to_vec(alloc)?;
+    input.extend_from_slice(GET)?;
+    Ok(input)
+}
+
+// The replies to both.
+fn both_replies(alloc: Global) -> Result<Vec<u8>, AllocError> {
+    let mut replies = CREATED.to_vec(alloc)?;
+    replies.extend_from_slice(FETCHED)?;
+    Ok(replies)
+}
+
+#[test]
+fn first_deploy_in_reads_of_each_size(rt: HostRuntime) -> Result<(), Fail> {
+    let alloc = rt.alloc();
+    let want = both_replies(alloc)?;
+    for size in 1..5 {
+        let input = first_deploy(alloc)?;
+        let sizes = vec![in alloc; size; 200]?;
+        let (told, status) = told_by::<Brand>(&rt, REPLAY, input, sizes, Blank::new(1))?;
+        assert!(&rt; status == Status::Ok);
+        assert!(&rt; told.as_slice() == want.as_slice());
+    }
+    Ok(())
+}
+
+// What is to be told where only so many bytes came, and the status.
+fn wanted(len: usize) -> (bool, bool, Status) {
+    let whole = PUT.len() + GET.len();
+    let status = if len == 0 || len == PUT.len() || len == whole {
+        Status::Ok
+    } else {
+        Status::BadInput
+    };
+    (len >= PUT.len(), len == whole, status)
+}
+
+#[test]
+fn first_deploy_cut_at_each_place(rt: HostRuntime) -> Result<(), Fail> {
+    let alloc = rt.alloc();
+    let all = first_deploy(alloc)?;
+    for len in 0..all.len() + 1 {
+        let input = all[..len].to_vec(alloc)?;
+        let (created, fetched, want) = wanted(len);
+        let (told, status) = told_by::<Brand>(&rt, REPLAY, input, Vec::new(alloc), Blank::new(1))?;
+        let mut replies = Vec::new(alloc);
+        if created {
+            replies.extend_from_slice(CREATED)?;
+        }
+        if fetched {
+            replies.extend_from_slice(FETCHED)?;
+        }
+        assert!(&rt; status == want);
+        assert!(&rt; told.as_slice() == replies.as_slice());
+    }
+    Ok(())
+}
+
+#[test]
+fn words_that_are_no_command(rt: HostRuntime) -> Result<(), Fail> {
+    let alloc = rt.alloc();
+    let table: &[&[&str]] = &[
+        &[],
+        &["replay", "--start", "x"],
+        &["replay", "--start", "01"],
+        &["replay", "--start", "+1"],
+        &["replay", "--start", "253402200000001"],
+        &["replay", "--start", ""],
+        &["replay", "--begin", "0"],
+        &["answer", "--start", "0"],
+        &["replay", "--start", "0", "0"],
+    ];
+    for words in table {
+        let input = first_deploy(alloc)?;
+        let (told, status) = told_by::<Brand>(&rt, words, input, Vec::new(alloc), Blank::new(1))?;
+        assert!(&rt; status == Status::Usage);
+        assert!(&rt; told.is_empty());
+    }
+    let greatest = &["replay", "--start", "253402200000000"];
+    let (_, status) = told_by::<Brand>(
+        &rt,
+        greatest,
+        Vec::new(alloc),
+        Vec::new(alloc),
+        Blank::new(1),
+    )?;
+    assert!(&rt; status == Status::Ok);
+    Ok(())
+}
