@@ -55,6 +55,10 @@ json_reply status body = head_bytes status json_kind None (length body) ++ body
 abbrev pub refused : ℕ → List ℕ → List ℕ
 refused status message = json_reply status (error_body status message)
 
+-- the head of that reply, which is all that answers a HEAD (RFC 9110, section 9.3.2)
+abbrev pub refused_head : ℕ → List ℕ → List ℕ
+refused_head status message = head_bytes status json_kind None (length (error_body status message))
+
 -- a file's whole reply
 abbrev pub content_reply : File → List ℕ
 content_reply file = head_bytes 200 content_kind (Some file.digests) (length file.content) ++ file.content

@@ -12,7 +12,7 @@ use Rattle.arti_rows.specs.declared.rows.Digests.{Digests}
 use Rattle.std.specs.Str.{str_eq_ignore_ascii_case}
 use Rattle.arti_model.specs.Requests.{Request, Whole, FieldText}
 use Rattle.arti_model.specs.Store.{Repository, Item, File, find_item, has_file, has_item}
-use Rattle.arti_model.specs.Bodies.{refused, json_reply, deploy_body, content_reply, item_text}
+use Rattle.arti_model.specs.Bodies.{refused, refused_head, json_reply, deploy_body, content_reply, item_text}
 
 -- a repository after a request, and the reply
 pub record Answer : Type 0 where
@@ -118,6 +118,14 @@ unchanged r reply = record { repository = r; reply = reply }
 abbrev pub not_yet : Repository → Answer
 not_yet r = unchanged r (refused 501 (codes "NotYet"))
 
+-- a HEAD, none of which is built yet
+abbrev pub head_not_yet : Repository → Answer
+head_not_yet r = unchanged r (refused_head 501 (codes "NotYet"))
+
+-- the answer to a request of a form that isn't built yet
+abbrev pub not_built : Request → Repository → Answer
+not_built q r = if has_method q (codes "HEAD") then head_not_yet r else not_yet r
+
 abbrev pub deploy : Limits → Repository → ℤ → Key → List ℕ → Answer
 deploy limits r moment key content =
     let file : File = record { content = content; digests = digests_of content } in
@@ -145,10 +153,10 @@ fetch r key = unchanged r (fetched key (find_item r.items key))
 
 -- a deploy or a fetch of an item
 abbrev pub step_on : Limits → Repository → Whole → ℤ → Option Key → Answer
-step_on limits r q moment None = not_yet r
+step_on limits r q moment None = not_built q.head r
 step_on limits r q moment (Some key) =
     if has_method q.head (codes "PUT") then deploy limits r moment key q.body else (
-    if has_method q.head (codes "GET") then fetch r key else not_yet r)
+    if has_method q.head (codes "GET") then fetch r key else not_built q.head r)
 
 -- one request at a moment
 unfoldable pub step : Limits → Repository → Whole → ℤ → Answer

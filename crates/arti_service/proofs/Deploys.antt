@@ -6,7 +6,7 @@ use Rattle.arti_rows.specs.declared.limits.Limits.{Limits}
 use Rattle.arti_model.specs.Bodies.{json_reply, deploy_body, deployed_body}
 use Rattle.arti_model.specs.Store.{Repository, File}
 use Rattle.arti_model.specs.Requests.{Whole}
-use Rattle.arti_model.specs.Step.{Answer, digests_of, can_deploy, with_file, new_file, anonymous, not_yet, deploy, fetch, item_asked, has_method, step_on, step}
+use Rattle.arti_model.specs.Step.{Answer, digests_of, can_deploy, with_file, new_file, anonymous, not_yet, head_not_yet, not_built, deploy, fetch, item_asked, has_method, step_on, step}
 
 module _ (limits : Limits) (r : Repository) (moment : ℤ) (key : Key) (content : List ℕ) (can : can_deploy limits r.items key ≡ true) where
   abbrev file : File
@@ -28,27 +28,43 @@ module _ (limits : Limits) (r : Repository) (moment : ℤ) (key : Key) (content 
   accepted_items = ap (λ (a : Answer). a.repository.items) is_accepted
 
 module _ (limits : Limits) (r : Repository) (q : Whole) (moment : ℤ) where
+  -- a request of a form that isn't built
+  not_built_by : (b : Bool) → has_method q.head (codes "HEAD") ≡ b → not_built q.head r ≡ cond b (head_not_yet r) (not_yet r)
+  not_built_by b e = ap (λ (x : Bool). cond x (head_not_yet r) (not_yet r)) e
+
   -- a request that names no item
-  pub names_none : item_asked q.head ≡ None → step limits r q moment ≡ not_yet r
+  none_built : item_asked q.head ≡ None → step limits r q moment ≡ not_built q.head r
   unfolding step
-  names_none e = ap (step_on limits r q moment) e
+  none_built e = ap (step_on limits r q moment) e
+
+  pub names_none : item_asked q.head ≡ None → has_method q.head (codes "HEAD") ≡ false → step limits r q moment ≡ not_yet r
+  names_none e head = none_built e ∙ not_built_by false head
+
+  pub head_names_none : item_asked q.head ≡ None → has_method q.head (codes "HEAD") ≡ true → step limits r q moment ≡ head_not_yet r
+  head_names_none e head = none_built e ∙ not_built_by true head
 
   module _ (key : Key) (e : item_asked q.head ≡ Some key) where
-    by_method : step limits r q moment ≡ cond (has_method q.head (codes "PUT")) (deploy limits r moment key q.body) (cond (has_method q.head (codes "GET")) (fetch r key) (not_yet r))
+    by_method : step limits r q moment ≡ cond (has_method q.head (codes "PUT")) (deploy limits r moment key q.body) (cond (has_method q.head (codes "GET")) (fetch r key) (not_built q.head r))
     unfolding step
     by_method = ap (step_on limits r q moment) e
 
     -- a deploy
     pub puts : has_method q.head (codes "PUT") ≡ true → step limits r q moment ≡ deploy limits r moment key q.body
-    puts put = by_method ∙ ap (λ (b : Bool). cond b (deploy limits r moment key q.body) (cond (has_method q.head (codes "GET")) (fetch r key) (not_yet r))) put
+    puts put = by_method ∙ ap (λ (b : Bool). cond b (deploy limits r moment key q.body) (cond (has_method q.head (codes "GET")) (fetch r key) (not_built q.head r))) put
 
-    not_put : has_method q.head (codes "PUT") ≡ false → step limits r q moment ≡ cond (has_method q.head (codes "GET")) (fetch r key) (not_yet r)
-    not_put put = by_method ∙ ap (λ (b : Bool). cond b (deploy limits r moment key q.body) (cond (has_method q.head (codes "GET")) (fetch r key) (not_yet r))) put
+    not_put : has_method q.head (codes "PUT") ≡ false → step limits r q moment ≡ cond (has_method q.head (codes "GET")) (fetch r key) (not_built q.head r)
+    not_put put = by_method ∙ ap (λ (b : Bool). cond b (deploy limits r moment key q.body) (cond (has_method q.head (codes "GET")) (fetch r key) (not_built q.head r))) put
 
     -- a fetch
     pub gets : has_method q.head (codes "PUT") ≡ false → has_method q.head (codes "GET") ≡ true → step limits r q moment ≡ fetch r key
-    gets put get = not_put put ∙ ap (λ (b : Bool). cond b (fetch r key) (not_yet r)) get
+    gets put get = not_put put ∙ ap (λ (b : Bool). cond b (fetch r key) (not_built q.head r)) get
+
+    no_other : has_method q.head (codes "PUT") ≡ false → has_method q.head (codes "GET") ≡ false → step limits r q moment ≡ not_built q.head r
+    no_other put get = not_put put ∙ ap (λ (b : Bool). cond b (fetch r key) (not_built q.head r)) get
 
     -- another method
-    pub other_method : has_method q.head (codes "PUT") ≡ false → has_method q.head (codes "GET") ≡ false → step limits r q moment ≡ not_yet r
-    other_method put get = not_put put ∙ ap (λ (b : Bool). cond b (fetch r key) (not_yet r)) get
+    pub other_method : has_method q.head (codes "PUT") ≡ false → has_method q.head (codes "GET") ≡ false → has_method q.head (codes "HEAD") ≡ false → step limits r q moment ≡ not_yet r
+    other_method put get head = no_other put get ∙ not_built_by false head
+
+    pub head_method : has_method q.head (codes "PUT") ≡ false → has_method q.head (codes "GET") ≡ false → has_method q.head (codes "HEAD") ≡ true → step limits r q moment ≡ head_not_yet r
+    head_method put get head = no_other put get ∙ not_built_by true head

@@ -1,7 +1,7 @@
 // One request is answered.
 ghost use Rattle.std.specs.Prelude.{◌≡◌, ◌≢◌, ◌++◌, OnOk, IfOk, IfErr, IsErrOf, Err, Some};
 ghost use Rattle.arti_ground.specs.State.{LeavesDisk, Rose};
-ghost use Rattle.arti_model.specs.Step.{step, deploy, fetch, not_yet, item_asked};
+ghost use Rattle.arti_model.specs.Step.{step, deploy, fetch, not_yet, head_not_yet, item_asked};
 ghost use Rattle.arti_service.specs.Cuts.{StoppedAt, StopsTelling};
 
 use crate::ask::{has_method, item_asked};
@@ -57,6 +57,21 @@ fn answer_not_yet<G: Ground>(alloc: Global, ground: &mut G, line: u32) -> Result
     ensures disk { G.tells → LeavesDisk (G.state ground.old) (G.state ground.new) }
 {
     let reply = replies::refusal(alloc, 501, "NotYet")?;
+    ground.tell(line, &reply)?;
+    Ok(())
+}
+
+// Tells that a HEAD isn't built yet.
+fn answer_head_not_yet<G: Ground>(alloc: Global, ground: &mut G, line: u32) -> Result<(), Stop>
+    ensures told { G.tells → (r : Repository) → OnOk result ((G.state ground.new).told line ≡ (G.state ground.old).told line ++ (head_not_yet r).reply) }
+    ensures stops { G.tells → (r : Repository) → IfErr result (λ stop. StoppedAt stop (head_not_yet r) ((G.state ground.old).told line) ((G.state ground.new).told line) r r) }
+    ensures tell_fault { IsErrOf result Stop.Tell → Rose (G.tell_faults ground.old line) (G.tell_faults ground.new line) }
+    ensures quiet { result ≢ Err Stop.Tell → G.tell_faults ground.new ≡ G.tell_faults ground.old }
+    ensures no_disk { result ≢ Err Stop.Disk }
+    ensures disk_faults { G.disk_faults ground.new ≡ G.disk_faults ground.old }
+    ensures disk { G.tells → LeavesDisk (G.state ground.old) (G.state ground.new) }
+{
+    let reply = replies::refusal_head(alloc, 501, "NotYet")?;
     ground.tell(line, &reply)?;
     Ok(())
 }
@@ -144,6 +159,8 @@ pub enum Asked {
     Deploy(ItemKey),
     Fetch(ItemKey),
     NotBuilt,
+    /// The same by HEAD.
+    HeadNotBuilt,
 }
 
 // What a request asks.
@@ -151,7 +168,12 @@ fn ask_of(alloc: Global, request: &Request) -> Result<Asked, AllocError>
     ensures { IfOk result (MeansFor request.now) }
 {
     match item_asked(alloc, request)? {
-        None => Ok(Asked::NotBuilt),
+        None => {
+            if has_method(request, "HEAD") {
+                return Ok(Asked::HeadNotBuilt);
+            }
+            Ok(Asked::NotBuilt)
+        }
         Some(key) => ask_on(request, key),
     }
 }
@@ -166,6 +188,9 @@ fn ask_on(request: &Request, key: ItemKey) -> Result<Asked, AllocError>
     }
     if has_method(request, "GET") {
         return Ok(Asked::Fetch(key));
+    }
+    if has_method(request, "HEAD") {
+        return Ok(Asked::HeadNotBuilt);
     }
     Ok(Asked::NotBuilt)
 }
@@ -196,6 +221,7 @@ fn answer_asked<G: Ground>(
         }
         Asked::Fetch(key) => answer_fetch(alloc, store, ground, line, &key),
         Asked::NotBuilt => answer_not_yet(alloc, ground, line),
+        Asked::HeadNotBuilt => answer_head_not_yet(alloc, ground, line),
     }
 }
 

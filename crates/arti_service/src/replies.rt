@@ -2,7 +2,7 @@
 ghost use Rattle.std.specs.Prelude.{◌≡◌, ◌+◌, ◌<◌, ◌++◌, ◌∷◌, [], length, string_bytes, IfOk, OnOk, Some};
 ghost use Rattle.arti_rows.specs.Key.{whole_of};
 ghost use Rattle.arti_model.specs.Replies.{head_bytes, IsReplyStatus};
-ghost use Rattle.arti_model.specs.Bodies.{text_member, text_members, deployed_members, deployed_body, digest_members, error_body, json_reply, refused, content_kind, item_text};
+ghost use Rattle.arti_model.specs.Bodies.{text_member, text_members, deployed_members, deployed_body, digest_members, error_body, json_reply, refused, refused_head, content_kind, item_text};
 ghost use Rattle.arti_model.specs.Step.{not_found};
 
 use arti_json::{write_number, write_text};
@@ -122,6 +122,15 @@ pub fn refusal(alloc: Global, status: u16, message: &str) -> Result<Vec<u8>, All
 {
     let body = error(alloc, status, message)?;
     with_json(alloc, status, &body)
+}
+
+/// The head of a refusal's reply.
+pub fn refusal_head(alloc: Global, status: u16, message: &str) -> Result<Vec<u8>, AllocError>
+    requires { IsReplyStatus status }
+    ensures { IfOk result (λ v. v.items ≡ refused_head status message.now) }
+{
+    let body = error(alloc, status, message)?;
+    response_head(alloc, status, "application/json", None, body.len() as u64)
 }
 
 /// The refusal of an item that isn't there.

@@ -33,6 +33,11 @@ const NOT_FOUND: &[u8] =
 const NOT_YET: &[u8] =
     b"HTTP/1.1 501 Not Implemented\r\nContent-Type: application/json\r\nContent-Length: 46\r\n\r\n{\"errors\":[{\"status\":501,\"message\":\"NotYet\"}]}";
 
+const HEAD: &[u8] = b"HEAD /generic-local/a/b.txt HTTP/1.1\r\nHost: x\r\n\r\n";
+
+const HEAD_NOT_YET: &[u8] =
+    b"HTTP/1.1 501 Not Implemented\r\nContent-Type: application/json\r\nContent-Length: 46\r\n\r\n";
+
 const BAD_LENGTH: &[u8] =
     b"HTTP/1.1 400 Bad Request\r\nContent-Type: application/json\r\nContent-Length: 49\r\n\r\n{\"errors\":[{\"status\":400,\"message\":\"BadLength\"}]}";
 
@@ -146,6 +151,14 @@ fn refusals_are_told(rt: HostRuntime) -> Result<(), Fail> {
         alloc,
         (PUT, PUT),
         (CREATED, NOT_YET),
+        Ending::End,
+        Blank::new(1),
+    )?;
+    expect::<Brand>(
+        &rt,
+        alloc,
+        (HEAD, GET),
+        (HEAD_NOT_YET, NOT_FOUND),
         Ending::End,
         Blank::new(1),
     )?;

@@ -50,3 +50,18 @@ pub returns-in-NotBuilt-clause-stops : goal.returns-in-NotBuilt-clause-stops
 unfolding answer_to
 returns-in-NotBuilt-clause-stops g c = λ gt.
     subst (λ (a : Asked). IfErr c.answer_not_yet.result (λ stop. StoppedAt stop (answer_to a c.args.limits.now c.args.store.now c.args.body.items c.args.moment) ((g.G.Ground.state c.args.ground.now).told c.args.line) ((g.G.Ground.state c.answer_not_yet.new.ground).told c.args.line) c.args.store.now c.args.store.now)) (sym c.in-NotBuilt.is) (c.answer_not_yet.ensures.stops gt c.args.store.now)
+
+pub returns-in-HeadNotBuilt-clause-told : goal.returns-in-HeadNotBuilt-clause-told
+unfolding answer_to
+returns-in-HeadNotBuilt-clause-told g c = λ gt.
+    subst (λ (a : Asked). OnOk c.answer_head_not_yet.result ((g.G.Ground.state c.answer_head_not_yet.new.ground).told c.args.line ≡ (g.G.Ground.state c.args.ground.now).told c.args.line ++ (answer_to a c.args.limits.now c.args.store.now c.args.body.items c.args.moment).reply)) (sym c.in-HeadNotBuilt.is) (c.answer_head_not_yet.ensures.told gt c.args.store.now)
+
+pub returns-in-HeadNotBuilt-clause-repository : goal.returns-in-HeadNotBuilt-clause-repository
+unfolding answer_to
+returns-in-HeadNotBuilt-clause-repository g c =
+    subst (λ (a : Asked). OnOk c.answer_head_not_yet.result (c.args.store.now ≡ (answer_to a c.args.limits.now c.args.store.now c.args.body.items c.args.moment).repository)) (sym c.in-HeadNotBuilt.is) (on_ok c.answer_head_not_yet.result _ refl)
+
+pub returns-in-HeadNotBuilt-clause-stops : goal.returns-in-HeadNotBuilt-clause-stops
+unfolding answer_to
+returns-in-HeadNotBuilt-clause-stops g c = λ gt.
+    subst (λ (a : Asked). IfErr c.answer_head_not_yet.result (λ stop. StoppedAt stop (answer_to a c.args.limits.now c.args.store.now c.args.body.items c.args.moment) ((g.G.Ground.state c.args.ground.now).told c.args.line) ((g.G.Ground.state c.answer_head_not_yet.new.ground).told c.args.line) c.args.store.now c.args.store.now)) (sym c.in-HeadNotBuilt.is) (c.answer_head_not_yet.ensures.stops gt c.args.store.now)
