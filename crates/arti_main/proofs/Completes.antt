@@ -1,7 +1,7 @@
 -- A run without a fault answers its whole input.
 use Rattle.std.specs.Prelude.{Some}
 use Rattle.arti_main.specs.declared.words.Command.TheVariants.{Replay}
-use Rattle.std.proofs.Common.{◌≡◌, ◌⊎◌, inl, inr, ℕ, List, refl, sym, subst, ◌∙◌, ap}
+use Rattle.std.proofs.Common.{◌≡◌, ◌⊎◌, inl, inr, ℕ, List, refl, subst, ap}
 use Rattle.arti_rows.specs.declared.limits.Limits.{Limits}
 use Rattle.arti_model.specs.Requests as model
 use Rattle.arti_model.specs.Requests.{Whole, RequestBytes}

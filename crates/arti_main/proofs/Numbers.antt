@@ -1,6 +1,6 @@
 -- Texts of numbers that are too great to be read.
-use Rattle.std.proofs.Common.{◌≡◌, ℕ, ◌^◌, ◌<◌, ◌≤◌, Bool, true, false, ◌&&◌, not, List, [], ◌∷◌, length, refl, sym, subst, ◌∙◌, arith, ltb, leb}
-use Rattle.std.specs.Prelude.{Option, Some, None, Result, Ok, Err, if◌then◌else◌}
+use Rattle.std.proofs.Common.{◌≡◌, ℕ, ◌^◌, ◌<◌, Bool, true, false, ◌&&◌, not, List, [], ◌∷◌, length, refl, subst, arith, ltb, leb}
+use Rattle.std.specs.Prelude.{Some, None, Result, Err, if◌then◌else◌}
 use Rattle.std.specs.Result.{OkIff}
 use Rattle.std.specs.List.{list_all}
 use Rattle.std.specs.Char.{is_ascii_digit, digit_value}

@@ -1,5 +1,5 @@
 -- What a step is, case by case.
-use Rattle.std.proofs.Common.{◌≡◌, ℕ, ℤ, Bool, true, cond, List, [], ◌∷◌, ◌++◌, length, ap, ◌∙◌}
+use Rattle.std.proofs.Common.{◌≡◌, ℕ, ℤ, Bool, true, cond, List, length, ap, ◌∙◌}
 use Rattle.std.specs.Prelude.{Some, None, false, codes}
 use Rattle.arti_rows.specs.Key.{Key}
 use Rattle.arti_rows.specs.declared.limits.Limits.{Limits}

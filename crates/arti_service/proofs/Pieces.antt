@@ -1,5 +1,5 @@
 -- Pieces written one behind the other.
-use Rattle.std.proofs.Common.{◌≡◌, ℕ, List, [], ◌∷◌, ◌++◌, ap, ◌∙◌, append_assoc}
+use Rattle.std.proofs.Common.{◌≡◌, ℕ, List, [], ◌++◌, ap, ◌∙◌, append_assoc}
 use Rattle.std.proofs.lemmas.List.{append-nil}
 
 two : (o a b : List ℕ) → (o ++ a) ++ b ≡ o ++ (a ++ (b ++ []))

@@ -12,7 +12,7 @@ use Rattle.arti_model.specs.Requests as model
 use Rattle.arti_model.specs.declared.Why.{Why}
 use Rattle.arti_model.specs.Store.{Repository}
 use Rattle.arti_model.specs.Step.{step}
-use Rattle.arti_model.specs.Run.{first_of, AnswersAll, repository_after, error_reply, last_reply}
+use Rattle.arti_model.specs.Run.{first_of, error_reply, last_reply}
 use Rattle.arti_service.specs.declared.conversation.Ending.{Ending}
 use Rattle.arti_service.specs.declared.conversation.Ending.TheVariants as ending
 use Rattle.arti_service.specs.Talk.{IsAnswered, AtStreamEnd, Answers, TakesTurn, AnswersOne, CutsShort}

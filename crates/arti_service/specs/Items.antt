@@ -1,8 +1,8 @@
 -- What the store's rows stand for.
-use Rattle.std.specs.Prelude.{ℕ, List, map, Option, option_map}
+use Rattle.std.specs.Prelude.{ℕ, List, map, option_map}
 use Rattle.arti_rows.specs.declared.rows.FileRef.{FileRef}
 use Rattle.arti_rows.specs.declared.rows.ItemRow.{ItemRow}
-use Rattle.arti_model.specs.Store.{Item, File}
+use Rattle.arti_model.specs.Store.{Item}
 use Rattle.arti_service.specs.declared.stored.Stored.{Stored}
 
 -- a row with its content

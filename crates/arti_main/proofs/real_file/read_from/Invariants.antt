@@ -1,4 +1,4 @@
-use Rattle.std.proofs.Common.{◌≡◌, ◌≤◌, length}
+use Rattle.std.proofs.Common.{◌≤◌, length}
 use Rattle.arti_main.proofs.real_file.read_from.Given as goal
 
 abbrev pub invariant-reads : goal.invariant-reads

@@ -1,7 +1,6 @@
-use Rattle.std.proofs.Common.{◌≡◌, ◌⊎◌, List, ℕ, ap, sym, subst, ◌∙◌, rules}
+use Rattle.std.proofs.Common.{◌≡◌, ◌⊎◌, List, ℕ, ap, sym, subst, ◌∙◌}
 use Rattle.std.specs.Prelude.{Some}
 use Rattle.arti_main.specs.declared.words.Command.{Command}
-use Rattle.arti_main.specs.declared.words.Command.TheVariants.{Replay}
 use Rattle.arti_main.specs.declared.top.Status.TheVariants as status
 use Rattle.arti_main.specs.Answered.{status_of, ToldFor}
 use Rattle.arti_main.proofs.Completes.{completes, starts_same}

@@ -1,4 +1,4 @@
-use Rattle.std.proofs.Common.{◌≡◌, ℕ, List, true, sym, ap, ◌∙◌}
+use Rattle.std.proofs.Common.{◌≡◌, true, sym, ap, ◌∙◌}
 use Rattle.arti_main.specs.Words.{is_number}
 use Rattle.arti_main.proofs.Numbers.{unparsed}
 use Rattle.arti_main.proofs.words.start_of.Goals as goal

@@ -1,4 +1,4 @@
-use Rattle.std.proofs.Common.{◌≡◌, List, ℕ, ◌++◌, sym, ap, ◌∙◌, subst, refl}
+use Rattle.std.proofs.Common.{◌≡◌, ◌++◌, sym, subst, refl}
 use Rattle.std.specs.Prelude.{OnOk, IfErr}
 use Rattle.arti_service.specs.Cuts.{StoppedAt}
 use Rattle.arti_service.specs.Asks.{answer_to}

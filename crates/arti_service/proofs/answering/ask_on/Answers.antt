@@ -1,4 +1,4 @@
-use Rattle.std.proofs.Common.{◌≡◌, Bool, true, false, sym, ◌∙◌}
+use Rattle.std.proofs.Common.{◌≡◌, true, false, sym, ◌∙◌}
 use Rattle.std.specs.Prelude.{codes}
 use Rattle.arti_model.specs.Step.{has_method}
 use Rattle.arti_service.specs.Asks.{answer_to}

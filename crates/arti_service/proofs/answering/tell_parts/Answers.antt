@@ -1,5 +1,4 @@
-use Rattle.std.proofs.Common.{rules, ◌≡◌, ◌++◌, ℕ, List, refl}
-use Rattle.arti_service.proofs.Stops.{in_first_part, in_second_part, both_parts}
+use Rattle.arti_service.proofs.Stops.{in_first_part, in_second_part}
 use Rattle.arti_service.proofs.answering.tell_parts.Goals as goal
 
 pub returns-in-Err-clause-stops : goal.returns-in-Err-clause-stops

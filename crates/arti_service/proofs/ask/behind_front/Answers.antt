@@ -1,4 +1,4 @@
-use Rattle.std.proofs.Common.{◌≡◌, false, sym}
+use Rattle.std.proofs.Common.{false, sym}
 use Rattle.std.proofs.lemmas.Str.Pattern.{starts_text}
 use Rattle.arti_model.specs.Step.{local_front}
 use Rattle.arti_service.proofs.ask.behind_front.Goals as goal

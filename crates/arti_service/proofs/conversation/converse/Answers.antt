@@ -1,11 +1,8 @@
 use Rattle.std.proofs.lemmas.List.{length-take}
-use Rattle.std.proofs.Common.{length, drop, length-append, ◌≡◌, ◌-◌, ◌<◌, ◌++◌, ℕ, ℤ, List, [], refl, sym, ap, ◌∙◌, subst, arith, rules}
+use Rattle.std.proofs.Common.{length, drop, length-append, ◌≡◌, ◌++◌, ℕ, refl, ap, ◌∙◌, subst, arith, rules}
 use Rattle.std.specs.Prelude.{Err}
-use Rattle.arti_ground.specs.State.{LeavesDisk, Rose}
+use Rattle.arti_ground.specs.State.{Rose}
 use Rattle.arti_service.specs.declared.conversation.Ending.{Ending}
-use Rattle.arti_model.specs.Requests as model
-use Rattle.arti_model.specs.Store.{Repository}
-use Rattle.arti_service.specs.Talk.{IsAnswered, AtStreamEnd, Answers, TakesTurn}
 use Rattle.arti_service.proofs.Talks.{goes_through, starts_so, goes_so, leaves_then}
 use Rattle.arti_service.proofs.Stops.{none_so_far, one_more, behind, at_once}
 use Rattle.arti_service.proofs.conversation.converse.Goals as goal

@@ -1,4 +1,4 @@
-use Rattle.std.proofs.Common.{◌≡◌, ◌<◌, ◌≤◌, ◌++◌, ℕ, List, length}
+use Rattle.std.proofs.Common.{◌≡◌, ◌<◌, ◌++◌, ℕ, List, length}
 use Rattle.arti_ground.specs.State.{LeavesDisk}
 use Rattle.arti_model.specs.Requests as model
 use Rattle.arti_model.specs.Store.{Repository}

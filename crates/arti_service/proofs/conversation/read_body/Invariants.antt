@@ -1,4 +1,4 @@
-use Rattle.std.proofs.Common.{◌≡◌, ◌+◌, ◌<◌, ◌++◌, length}
+use Rattle.std.proofs.Common.{◌≡◌, ◌+◌, ◌++◌, length}
 use Rattle.arti_wire.specs.Framing.{IsInBody, body_left}
 use Rattle.arti_service.proofs.conversation.read_body.Given as goal
 

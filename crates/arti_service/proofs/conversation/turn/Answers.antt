@@ -1,4 +1,4 @@
-use Rattle.std.proofs.Common.{◌≡◌, ◌<◌, ◌++◌, ℕ, List, inl, refl, arith}
+use Rattle.std.proofs.Common.{◌<◌, ◌++◌, ℕ, List, inl, refl, arith}
 use Rattle.arti_model.specs.Requests as model
 use Rattle.arti_model.specs.Requests.{AtEnd, AtCut, AtBad, Head}
 use Rattle.arti_wire.specs.Framing.{AnswersStart, body_left}

@@ -1,4 +1,4 @@
-use Rattle.std.proofs.Common.{◌≡◌, Bool, true, false, ap, ◌∙◌, rules}
+use Rattle.std.proofs.Common.{◌≡◌, true, false, ap, rules}
 use Rattle.std.specs.Prelude.{Err}
 use Rattle.arti_wire.specs.Framing.{body_left}
 use Rattle.std.proofs.Common.{List, ℕ, ◌++◌}

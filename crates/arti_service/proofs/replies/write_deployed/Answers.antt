@@ -1,4 +1,4 @@
-use Rattle.std.proofs.Common.{◌≡◌, ℕ, List, [], ◌∷◌, ◌++◌, ap, ◌∙◌, rules}
+use Rattle.std.proofs.Common.{◌≡◌, ℕ, List, ◌∷◌, ◌++◌, ap, ◌∙◌, rules}
 use Rattle.std.specs.Prelude.{codes, decimal}
 use Rattle.arti_time.specs.Printed.{printed}
 use Rattle.arti_rows.specs.Key.{whole_of}

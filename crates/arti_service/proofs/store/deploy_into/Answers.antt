@@ -1,7 +1,7 @@
-use Rattle.std.proofs.Common.{◌≡◌, ℕ, List, Bool, true, length, sym, ap, ◌∙◌, rules}
+use Rattle.std.proofs.Common.{◌≡◌, ℕ, List, true, length, sym, ap, ◌∙◌, rules}
 use Rattle.std.specs.Prelude.{filter, not}
 use Rattle.arti_rows.specs.Key.{Key, folders_above}
-use Rattle.arti_model.specs.Store.{Item, Repository, has_item}
+use Rattle.arti_model.specs.Store.{Repository, has_item}
 use Rattle.arti_model.specs.Bodies.{json_reply, deployed_body}
 use Rattle.arti_model.specs.Step.{digests_of, can_deploy, missing_folders, anonymous}
 use Rattle.arti_service.specs.Items.{items_of}
