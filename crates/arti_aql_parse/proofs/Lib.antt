@@ -7,3 +7,5 @@ pub mod CriteriaRows
 pub mod Joined
 pub mod OneReading
 pub mod ParseLaws
+pub mod PrintRows
+pub mod PrintTexts

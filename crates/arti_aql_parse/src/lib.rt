@@ -6,6 +6,9 @@ mod elements;
 mod fault;
 mod numbers;
 mod parser;
+mod print_parts;
+mod print_tree;
+mod printing;
 mod query;
 mod reading;
 mod suffixes;
@@ -14,6 +17,7 @@ mod words;
 
 pub use arti_rows::What;
 pub use fault::ParseFault;
+pub use printing::print;
 pub use query::{Lit, Member, Object, Op, Query, Sort, Test};
 pub use reading::parse;
 pub use thin::{ThinFault, thin_parse};

@@ -334,3 +334,81 @@ fn refusals(rt: HostRuntime) -> Result<(), Fail> {
     );
     Ok(())
 }
+
+// Queries as they may be written, and as each is printed.
+const PRINTED: [(&str, &str); 19] = [
+    (
+        "items . find ( { \"size\" : { \"$gt\" : 1 } , \"name\" : { \"$eq\" : \"x\" } } ) . limit ( 2 )",
+        "items.find({\"size\":{\"$gt\":1},\"name\":\"x\"}).limit(2)",
+    ),
+    (" find ( ) ", "find()"),
+    ("archive\n. entries .find()", "archive.entries.find()"),
+    ("items.find( {} , { } )", "items.find({},{})"),
+    (
+        "items.find({\"a\" : {\"$eq\":1, \"$eq\":2}})",
+        "items.find({\"a\":{\"$eq\":1,\"$eq\":2}})",
+    ),
+    (
+        "items.find({\"a\":{\"$ne\":null}, \"b\":null})",
+        "items.find({\"a\":{\"$ne\":null},\"b\":null})",
+    ),
+    (
+        "items.find({\"a\":-0,\"b\":-12,\"c\":999999999999999999})",
+        "items.find({\"a\":0,\"b\":-12,\"c\":999999999999999999})",
+    ),
+    (
+        "items.find({\"a\":{\"$gte\":1,\"$lt\":2,\"$lte\":3,\"$match\":\"*\",\"$nmatch\":\"?\",\"$before\":\"1d\",\"$last\":\"2d\"}})",
+        "items.find({\"a\":{\"$gte\":1,\"$lt\":2,\"$lte\":3,\"$match\":\"*\",\"$nmatch\":\"?\",\"$before\":\"1d\",\"$last\":\"2d\"}})",
+    ),
+    (
+        "items.find({\"$and\": [{\"a\":1}, {\"$or\":[ {\"$msp\":[{}]} ]}]})",
+        "items.find({\"$and\":[{\"a\":1},{\"$or\":[{\"$msp\":[{}]}]}]})",
+    ),
+    (
+        "items.find({\"\\u0061\\/\\u00e9\":\"\\u0022\\u005c\\u0008\\u000c\\u000a\\u000d\\u0009\"})",
+        "items.find({\"a/\u{e9}\":\"\\\"\\\\\\b\\f\\n\\r\\t\"})",
+    ),
+    (
+        "items.find({\"a\":\"\\u0000\\u001F\\u007f\\uD83D\\uDE00\"})",
+        "items.find({\"a\":\"\\u0000\\u001f\u{7f}\u{1f600}\"})",
+    ),
+    (
+        "items.find().include( \"a\" , \"*\" )",
+        "items.find().include(\"a\",\"*\")",
+    ),
+    (
+        "items.find().sort({ \"$asc\" : [ \"a\" , \"b\" ] })",
+        "items.find().sort({\"$asc\":[\"a\",\"b\"]})",
+    ),
+    (
+        "items.find().sort({\"$desc\":[\"a\"]})",
+        "items.find().sort({\"$desc\":[\"a\"]})",
+    ),
+    ("items.find().offset( 0 )", "items.find().offset(0)"),
+    ("items.find().limit(-0)", "items.find().limit(0)"),
+    (
+        "items.find(). distinct ( true )",
+        "items.find().distinct(true)",
+    ),
+    (
+        "items.find().distinct(false)",
+        "items.find().distinct(false)",
+    ),
+    (
+        "items.find().distinct(false).limit(4).offset(3).sort({\"$asc\":[\"a\"]}).include(\"a\")",
+        "items.find().include(\"a\").sort({\"$asc\":[\"a\"]}).offset(3).limit(4).distinct(false)",
+    ),
+];
+
+#[test]
+fn printed_forms(rt: HostRuntime) -> Result<(), Fail> {
+    for (text, want) in &PRINTED {
+        let query = parse(rt.alloc(), *text)?;
+        let printed = print(rt.alloc(), &query)?;
+        assert_eq!(rt; printed.as_str(), *want, "of {text:?}");
+        let again = parse(rt.alloc(), printed.as_str())?;
+        let same = print(rt.alloc(), &again)?;
+        assert_eq!(rt; same.as_str(), *want, "of {want:?}");
+    }
+    Ok(())
+}
