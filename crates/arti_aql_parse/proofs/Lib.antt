@@ -9,3 +9,10 @@ pub mod OneReading
 pub mod ParseLaws
 pub mod PrintRows
 pub mod PrintTexts
+pub mod PrintPieces
+pub mod PrintTokens
+pub mod PrintNumbers
+pub mod PrintParts
+pub mod PrintTree
+pub mod PrintSuffixes
+pub mod PrintQuery

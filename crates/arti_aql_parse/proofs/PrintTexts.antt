@@ -1,10 +1,10 @@
 -- A text with no byte that has an escape is printed as it is.
-use Rattle.std.proofs.Common.{◌≡◌, ℕ, Bool, true, false, cond, List, [], ◌∷◌, ◌++◌, refl, sym, ap, ◌∙◌, append_assoc, arith}
-use Rattle.std.specs.Prelude.{◌||◌, nat_lt, ◌==◌, flat_map}
+use Rattle.std.proofs.Common.{◌≡◌, ℕ, Bool, true, false, List, [], ◌∷◌, ◌++◌, refl, sym, ap, ◌∙◌, append_assoc, arith}
+use Rattle.std.specs.Prelude.{◌||◌}
 use Rattle.std.specs.List.{list_any}
 use Rattle.std.proofs.lemmas.Bool.{false≢true}
 use Rattle.std.proofs.lemmas.Bool.Decides.{nat_tests}
-use Rattle.json.specs.Print.{escape_byte, escape_letter, escape, quoted}
+use Rattle.json.specs.Print.{escape_byte, escape, quoted}
 use Rattle.arti_aql_parse.specs.Print.{has_escape}
 
 pub no_escape : (b : ℕ) → has_escape b ≡ false → escape_byte b ≡ b ∷ []

@@ -1,7 +1,7 @@
 -- The grammar of a query, over the tokens of its text. Each relation says that tokens begin with a part, what the part is,
 -- and which tokens follow it. The number is how many braces and brackets may still be opened.
-use Rattle.std.specs.Prelude.{◌≡◌, ◌≢◌, ◌<◌, ◌+◌, ℕ, List, [], ◌∷◌, ◌++◌, Bool, true, false, if◌then◌else◌, Option, Some, None, is_none}
-use Rattle.arti_aql_lex.specs.Lexed.{Lexed, finish, fault, token}
+use Rattle.std.specs.Prelude.{◌≡◌, ◌≢◌, ◌<◌, ◌+◌, ℕ, List, [], ◌∷◌, Bool, true, false, Some, None, is_none}
+use Rattle.arti_aql_lex.specs.Lexed.{Lexed}
 use Rattle.arti_aql_lex.specs.declared.token.TokenKind.{TokenKind}
 use Rattle.arti_aql_lex.specs.declared.token.TokenKind.TheVariants.{Name, Words, Number, Dot, Open, Close, ObjectOpen, ObjectClose, ListOpen, ListClose, Colon, Comma, End}
 use Rattle.arti_aql_parse.specs.Words as word

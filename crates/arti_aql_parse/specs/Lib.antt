@@ -10,3 +10,4 @@ pub mod Refusal
 pub mod Ahead
 pub mod Spelling
 pub mod Print
+pub mod Spellable

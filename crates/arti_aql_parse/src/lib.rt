@@ -4,6 +4,7 @@
 mod criteria;
 mod elements;
 mod fault;
+mod laws;
 mod numbers;
 mod parser;
 mod print_parts;
@@ -17,6 +18,7 @@ mod words;
 
 pub use arti_rows::What;
 pub use fault::ParseFault;
+pub use laws::texts_spell_one_query;
 pub use printing::print;
 pub use query::{Lit, Member, Object, Op, Query, Sort, Test};
 pub use reading::parse;

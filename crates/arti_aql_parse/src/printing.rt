@@ -1,6 +1,8 @@
 //! The printed form of a query.
-ghost use Rattle.std.specs.Prelude.{◌≡◌, ◌++◌, IfOk, OnOk, string_bytes};
+ghost use Rattle.std.specs.Prelude.{◌≡◌, ◌≤◌, ◌++◌, length, IfOk, OnOk, string_bytes};
 ghost use Rattle.arti_aql_parse.specs.Print.{order_text, include_text, sort_text, offset_text, limit_text, distinct_text, suffixes_text, head_text, printed};
+ghost use Rattle.arti_aql_parse.specs.Spellable.{HasSpelling};
+ghost use Rattle.arti_aql_parse.specs.Spelling.{Spells, most_bytes};
 ghost use Rattle.arti_aql_parse.specs.View.{view};
 
 use crate::print_parts::{push_number, push_texts};
@@ -111,7 +113,9 @@ fn push_suffixes(alloc: Global, out: &mut String, query: &Query) -> Result<(), A
 /// the stack goes no deeper than that.
 #[tactic(auto, unfolding(crate::specs::Print::printed))]
 pub fn print(alloc: Global, query: &Query) -> Result<Text, AllocError>
-    ensures { IfOk result (λ text. text ≡ printed (view query.now)) }
+    ensures text { IfOk result (λ text. text ≡ printed (view query.now)) }
+    // Where the query has a spelling and this text isn't too long, it is one.
+    ensures spells { IfOk result (λ text. HasSpelling (view query.now) → length text ≤ most_bytes → Spells text (view query.now)) }
 {
     let mut out = String::new(alloc);
     push_head(&mut out, query.domain.as_str())?;

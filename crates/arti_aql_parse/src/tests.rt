@@ -1,5 +1,12 @@
+ghost use Rattle.std.specs.Prelude.{◌≡◌, ◌≤◌, length};
+ghost use Rattle.arti_aql_parse.specs.Print.{printed};
+ghost use Rattle.arti_aql_parse.specs.Spellable.{HasSpelling};
+ghost use Rattle.arti_aql_parse.specs.Spelling.{most_bytes, Answers};
+ghost use Rattle.arti_aql_parse.specs.View.{view};
+
 use super::*;
 use arti_aql_lex::LexFault;
+use std::alloc::Global;
 use std::test::Fail;
 
 // Bodies that have another form, and how far they go along with it.
@@ -400,13 +407,23 @@ const PRINTED: [(&str, &str); 19] = [
     ),
 ];
 
+// A query that has a spelling is what is read of its printed form.
+fn read_back(alloc: Global, query: &Query) -> Result<Query, ParseFault>
+    ensures { HasSpelling (view query.now) → length (printed (view query.now)) ≤ most_bytes → Answers (view query.now) result }
+{
+    match print(alloc, query) {
+        Ok(text) => parse(alloc, text.as_str()),
+        Err(_) => Err(ParseFault::Memory),
+    }
+}
+
 #[test]
 fn printed_forms(rt: HostRuntime) -> Result<(), Fail> {
     for (text, want) in &PRINTED {
         let query = parse(rt.alloc(), *text)?;
         let printed = print(rt.alloc(), &query)?;
         assert_eq!(rt; printed.as_str(), *want, "of {text:?}");
-        let again = parse(rt.alloc(), printed.as_str())?;
+        let again = read_back(rt.alloc(), &query)?;
         let same = print(rt.alloc(), &again)?;
         assert_eq!(rt; same.as_str(), *want, "of {want:?}");
     }
