@@ -16,3 +16,5 @@ pub mod PrintParts
 pub mod PrintTree
 pub mod PrintSuffixes
 pub mod PrintQuery
+pub mod SpelledTokens
+pub mod SpelledFits

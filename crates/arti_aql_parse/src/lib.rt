@@ -18,7 +18,7 @@ mod words;
 
 pub use arti_rows::What;
 pub use fault::ParseFault;
-pub use laws::texts_spell_one_query;
+pub use laws::{spelled_queries_have_spellings, texts_spell_one_query};
 pub use printing::print;
 pub use query::{Lit, Member, Object, Op, Query, Sort, Test};
 pub use reading::parse;
