@@ -18,3 +18,5 @@ pub mod PrintSuffixes
 pub mod PrintQuery
 pub mod SpelledTokens
 pub mod SpelledFits
+pub mod SpelledCosts
+pub mod SpelledShorter

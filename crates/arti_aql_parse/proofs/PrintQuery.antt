@@ -49,7 +49,7 @@ name_some : (x : List ℕ) → IsName x → 0 < length x
 name_some [] is = absurd (false≢true is.first)
 name_some (b ∷ bs) is = omega arith
 
-joined_some : (x : List ℕ) (xs : List (List ℕ)) → IsName x → 0 < length (joined (x ∷ xs))
+pub joined_some : (x : List ℕ) (xs : List (List ℕ)) → IsName x → 0 < length (joined (x ∷ xs))
 joined_some x [] is = name_some x is
 joined_some x (y ∷ ys) is = omega (arith, name_some x is, length-append x (46 ∷ joined (y ∷ ys)))
 

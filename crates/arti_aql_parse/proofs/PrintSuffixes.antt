@@ -64,7 +64,7 @@ truth_reads b bs x first all known p rest =
     )
 
 -- `{ "$asc" : [`
-order_name : Bool → List ℕ
+unfoldable pub order_name : Bool → List ℕ
 order_name descending = cond descending (codes "$desc") (codes "$asc")
 
 order_known : (descending : Bool) → order_of (order_name descending) ≡ Some descending

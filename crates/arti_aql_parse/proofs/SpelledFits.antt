@@ -126,7 +126,7 @@ suffixes_fit : {given all : Suffixes} {a : Lexed} → ReadsSuffixes given a all 
 suffixes_fit (no_more h) s f = f
 suffixes_fit (one_more m r more) s f = let g = suffix_fits r (mark_sound m s) f in suffixes_fit more g.1 g.0
 
-head_fits : {a b : Lexed} {names : List (List ℕ)} → ReadsHead a names b → Sound a → AreNames names × Sound b
+pub head_fits : {a b : Lexed} {names : List (List ℕ)} → ReadsHead a names b → Sound a → AreNames names × Sound b
 head_fits {a} (find h n m) s = (tt, mark_sound m (sound_tail a s))
 head_fits {a} (part h v m r) s = let f = head_fits r (mark_sound m (sound_tail a s)) in ((subst IsName (sym v) (sound_name a s h), f.0), f.1)
 

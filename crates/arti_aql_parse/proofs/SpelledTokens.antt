@@ -30,10 +30,10 @@ Sound (finish at) = Unit {0}
 Sound (fault f) = Unit {0}
 Sound (token s e kind value rest) = SoundToken kind value × Sound rest
 
-own : IsNumeralModel (λ ds. list_all is_ascii_digit ds ≡ true) (λ ds. fold (λ n b. n * 10 + (b - 48)) 0 ds)
+pub own : IsNumeralModel (λ ds. list_all is_ascii_digit ds ≡ true) (λ ds. fold (λ n b. n * 10 + (b - 48)) 0 ds)
 own = numerals_by_fold _ (search rules) (λ n ds. fold (λ m b. m * 10 + (b - 48)) n ds) (search rules)
 
-few_digits : (ds : List ℕ) → list_all is_ascii_digit ds ≡ true → length ds ≤ 18 → digits_value ds < 10 ^ 18
+pub few_digits : (ds : List ℕ) → list_all is_ascii_digit ds ≡ true → length ds ≤ 18 → digits_value ds < 10 ^ 18
 few_digits ds all few = digits_value_short own ds 18 all few
 
 front_step : (q : ℕ → Bool) (x : ℕ) (xs : List ℕ) (t : Bool) → q x ≡ t → list_all q (take (prefix_len q xs) xs) ≡ true → list_all q (take (prefix_len q (x ∷ xs)) (x ∷ xs)) ≡ true
@@ -42,7 +42,7 @@ front_step q x xs true e more =
     ap (λ k. list_all q (take k (x ∷ xs))) n ∙ rw e more
 front_step q x xs false e more = let n : prefix_len q (x ∷ xs) ≡ 0 = rw e refl in ap (λ k. list_all q (take k (x ∷ xs))) n
 
-front_all : (q : ℕ → Bool) (xs : List ℕ) → list_all q (take (prefix_len q xs) xs) ≡ true
+pub front_all : (q : ℕ → Bool) (xs : List ℕ) → list_all q (take (prefix_len q xs) xs) ≡ true
 front_all q [] = refl
 front_all q (x ∷ xs) = front_step q x xs (q x) refl (front_all q xs)
 
@@ -61,25 +61,25 @@ name_is p (b ∷ bs) h =
     })
 
 -- what follows from a choice, by its test
-case : {A : Type 0} (b : Bool) (x y z : A) (G : Type 0) → (b ≡ true → x ≡ z → G) → (b ≡ false → y ≡ z → G) → cond b x y ≡ z → G
+pub case : {A : Type 0} (b : Bool) (x y z : A) (G : Type 0) → (b ≡ true → x ≡ z → G) → (b ≡ false → y ≡ z → G) → cond b x y ≡ z → G
 case true x y z G f g h = f refl h
 case false x y z G f g h = g refl h
 
 not_zero : (n : ℕ) → (n == 0) ≡ false → 0 < n
 not_zero n h = let some : n ≢ 0 = λ z. false≢true (sym h ∙ eq-eqb n 0 z) in omega arith
 
-err_ok : {A : Type 0} (f : LexFault) (x : A) → Err f ≡ Ok x → ⊥
+pub err_ok : {A : Type 0} (f : LexFault) (x : A) → Err f ≡ Ok x → ⊥
 err_ok f x h = cc
 
-ok_same : {A : Type 0} (r : Result A LexFault) (x y : A) → r ≡ Ok x → r ≡ Ok y → x ≡ y
+pub ok_same : {A : Type 0} (r : Result A LexFault) (x y : A) → r ≡ Ok x → r ≡ Ok y → x ≡ y
 ok_same r x y h k = let same : Ok x ≡ Ok y = sym h ∙ k in cc
 
-record Digits (p sign n e : ℕ) : Type 0 where
-  last : e ≡ p + sign + n
-  some : 0 < n
-  few : n ≤ 18
+pub record Digits (p sign n e : ℕ) : Type 0 where
+  pub last : e ≡ p + sign + n
+  pub some : 0 < n
+  pub few : n ≤ 18
 
-digits_are : (p : ℕ) (xs : List ℕ) (sign n e : ℕ) → digits_end p xs sign n ≡ Ok e → Digits p sign n e
+pub digits_are : (p : ℕ) (xs : List ℕ) (sign n e : ℕ) → digits_end p xs sign n ≡ Ok e → Digits p sign n e
 digits_are p xs sign n e h =
     case (n == 0) _ _ (Ok e) (Digits p sign n e) (λ t r. absurd (err_ok (BadByte p) e r))
     (λ some r. case ((get_or xs sign 0 == 48) && nat_lt 1 n) _ _ (Ok e) (Digits p sign n e) (λ t q. absurd (err_ok (BadByte (p + sign)) e q))
@@ -98,10 +98,10 @@ record ShortNumber (value : List ℕ) : Type 0 where
   number : IsShort (unsigned_abs (number_of value))
   natural : (n : ℕ) → natural_of value ≡ Some n → IsShort n
 
-some_same : (m n : ℕ) → Some m ≡ Some n → m ≡ n
+pub some_same : (m n : ℕ) → Some m ≡ Some n → m ≡ n
 some_same m n h = cc
 
-none_some : (n : ℕ) → None ≡ Some n → ⊥
+pub none_some : (n : ℕ) → None ≡ Some n → ⊥
 none_some n h = cc
 
 minus_short : (w : List ℕ) → digits_value w < 10 ^ 18 → ShortNumber (45 ∷ w)
@@ -162,7 +162,7 @@ number_sound value x = record { name = λ e. absurd (let never : Number ≡ Name
 other_sound : (kind : TokenKind) (value : List ℕ) → kind ≢ Name → kind ≢ Number → SoundToken kind value
 other_sound kind value name number = record { name = λ e. absurd (name e); number = λ e. absurd (number e); natural = λ e. absurd (number e) }
 
-is_mark : TokenKind → Bool
+abbrev pub is_mark : TokenKind → Bool
 is_mark Name = false
 is_mark Words = false
 is_mark Number = false
@@ -173,12 +173,11 @@ by_mark : (t : Bool) (m k : TokenKind) (r : Option TokenKind) → is_mark m ≡ 
 by_mark true m k r here more e = let is : m ≡ k = cc in ap is_mark (sym is) ∙ here
 by_mark false m k r here more e = more e
 
-mark_is : (b : ℕ) (k : TokenKind) → mark_of b ≡ Some k → is_mark k ≡ true
-unfolding mark_of is_mark
+pub mark_is : (b : ℕ) (k : TokenKind) → mark_of b ≡ Some k → is_mark k ≡ true
+unfolding mark_of
 mark_is b k = by_mark (b == 46) Dot k _ refl (by_mark (b == 40) Open k _ refl (by_mark (b == 41) Close k _ refl (by_mark (b == 123) ObjectOpen k _ refl (by_mark (b == 125) ObjectClose k _ refl (by_mark (b == 91) ListOpen k _ refl (by_mark (b == 93) ListClose k _ refl (by_mark (b == 58) Colon k _ refl (by_mark (b == 44) Comma k _ refl (λ never. let none : None ≡ Some k = never in cc)))))))))
 
 mark_sound : (b : ℕ) (kind : TokenKind) (value : List ℕ) → mark_of b ≡ Some kind → SoundToken kind value
-unfolding is_mark
 mark_sound b kind value h =
     let is = mark_is b kind h in
     other_sound kind value (λ e. false≢true (ap is_mark (sym e) ∙ is)) (λ e. false≢true (ap is_mark (sym e) ∙ is))

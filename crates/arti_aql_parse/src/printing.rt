@@ -1,5 +1,5 @@
 //! The printed form of a query.
-ghost use Rattle.std.specs.Prelude.{◌≡◌, ◌≤◌, ◌++◌, length, IfOk, OnOk, string_bytes};
+ghost use Rattle.std.specs.Prelude.{◌≡◌, ◌≤◌, ◌++◌, ℕ, List, length, IfOk, OnOk, string_bytes};
 ghost use Rattle.arti_aql_parse.specs.Print.{order_text, include_text, sort_text, offset_text, limit_text, distinct_text, suffixes_text, head_text, printed};
 ghost use Rattle.arti_aql_parse.specs.Spellable.{HasSpelling};
 ghost use Rattle.arti_aql_parse.specs.Spelling.{Spells, most_bytes};
@@ -116,6 +116,8 @@ pub fn print(alloc: Global, query: &Query) -> Result<Text, AllocError>
     ensures text { IfOk result (λ text. text ≡ printed (view query.now)) }
     // Where the query has a spelling and this text isn't too long, it is one.
     ensures spells { IfOk result (λ text. HasSpelling (view query.now) → length text ≤ most_bytes → Spells text (view query.now)) }
+    // Where some text spells the query, this one does, and it is no longer.
+    ensures shortest { IfOk result (λ text. (other : List ℕ) → Spells other (view query.now) → Spells text (view query.now) × (length text ≤ length other)) }
 {
     let mut out = String::new(alloc);
     push_head(&mut out, query.domain.as_str())?;

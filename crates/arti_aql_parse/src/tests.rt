@@ -1,7 +1,7 @@
-ghost use Rattle.std.specs.Prelude.{◌≡◌, ◌≤◌, length};
+ghost use Rattle.std.specs.Prelude.{◌≡◌, ◌≤◌, ℕ, List, length};
 ghost use Rattle.arti_aql_parse.specs.Print.{printed};
 ghost use Rattle.arti_aql_parse.specs.Spellable.{HasSpelling};
-ghost use Rattle.arti_aql_parse.specs.Spelling.{most_bytes, Answers};
+ghost use Rattle.arti_aql_parse.specs.Spelling.{Spells, most_bytes, Answers};
 ghost use Rattle.arti_aql_parse.specs.View.{view};
 
 use super::*;
@@ -409,7 +409,8 @@ const PRINTED: [(&str, &str); 19] = [
 
 // A query that has a spelling is what is read of its printed form.
 fn read_back(alloc: Global, query: &Query) -> Result<Query, ParseFault>
-    ensures { HasSpelling (view query.now) → length (printed (view query.now)) ≤ most_bytes → Answers (view query.now) result }
+    ensures fits { HasSpelling (view query.now) → length (printed (view query.now)) ≤ most_bytes → Answers (view query.now) result }
+    ensures spelled { (text : List ℕ) → Spells text (view query.now) → Answers (view query.now) result }
 {
     match print(alloc, query) {
         Ok(text) => parse(alloc, text.as_str()),
