@@ -1,5 +1,5 @@
 -- Rows of members and of objects, as lists.
-use Rattle.std.proofs.Common.{◌≡◌, ℕ, List, [], ◌∷◌, ◌++◌, ◌<◌, ◌≤◌, map, refl, ap, arith}
+use Rattle.std.proofs.Common.{ℕ, List, ◌<◌, ◌≤◌, refl, ap, arith}
 use Rattle.arti_aql_lex.specs.Lexed.{Lexed}
 use Rattle.arti_aql_lex.specs.declared.token.TokenKind.{TokenKind}
 use Rattle.arti_aql_lex.specs.declared.token.TokenKind.TheVariants.{Words, ObjectOpen}

@@ -7,3 +7,16 @@ pub mod CriteriaRows
 pub mod Joined
 pub mod OneReading
 pub mod ParseLaws
+pub mod PrintRows
+pub mod PrintTexts
+pub mod PrintPieces
+pub mod PrintTokens
+pub mod PrintNumbers
+pub mod PrintParts
+pub mod PrintTree
+pub mod PrintSuffixes
+pub mod PrintQuery
+pub mod SpelledTokens
+pub mod SpelledFits
+pub mod SpelledCosts
+pub mod SpelledShorter

@@ -1,9 +1,9 @@
 -- One reading: tokens that are read so are read in no other way, and aren't refused.
-use Rattle.std.proofs.Common.{◌≡◌, ◌≢◌, ℕ, zero, suc, ◌+◌, ◌<◌, List, [], ◌∷◌, ◌++◌, Bool, true, false, not, ◌||◌, Option, Some, None, is_some, refl, sym, ap, ◌∙◌, arith}
+use Rattle.std.proofs.Common.{◌≡◌, ◌≢◌, ℕ, List, [], ◌∷◌, Bool, true, false, not, ◌||◌, Option, Some, None, is_some, refl, sym, ap, ◌∙◌, arith}
 use Rattle.std.proofs.lemmas.Bool.{false≢true}
 use Rattle.arti_aql_lex.specs.Lexed.{Lexed}
 use Rattle.arti_aql_lex.specs.declared.token.TokenKind.{TokenKind}
-use Rattle.arti_aql_lex.specs.declared.token.TokenKind.TheVariants.{Name, Words, Number, Dot, Open, Close, ObjectOpen, ObjectClose, ListOpen, ListClose, Colon, Comma, End}
+use Rattle.arti_aql_lex.specs.declared.token.TokenKind.TheVariants.{Words, Dot, Open, Close, ObjectOpen, ObjectClose, ListClose, Comma, End}
 use Rattle.arti_aql_parse.specs.Front.{kind_at, first_value, tail, literal_at}
 use Rattle.arti_aql_parse.specs.Grammar.{Mark, IsField, ReadsText, ReadsTexts, last_text, more_texts, ReadsTest, ReadsTests, last_test, more_tests, ReadsKey, ReadsOperand, equals, compares, ReadsObject, no_member, some_members, ReadsMembers, last_member, more_members, ReadsMember, list, field, ReadsObjects, last_object, more_objects, ReadsOrder, ReadsSort, ReadsNatural, ReadsTruth, is_fresh, ReadsName, ReadsSuffix, include, sort, offset, limit, distinct, ReadsSuffixes, no_more, one_more, ReadsHead, find, part, joined, ReadsCriteria, no_criteria, criteria, ReadsQuery}
 use Rattle.arti_aql_parse.specs.Refusal as no
@@ -11,8 +11,6 @@ use Rattle.arti_aql_parse.specs.Refusal.{RefusesTexts, RefusesTest, RefusesTests
 use Rattle.arti_aql_parse.specs.Tree.{PlainMember, tests, group, Members, no_members, member, Objects, no_objects, object, PlainQuery}
 use Rattle.arti_aql_parse.specs.Words as word
 use Rattle.arti_aql_parse.specs.declared.fault.ReadFault.{ReadFault}
-use Rattle.arti_aql_parse.specs.declared.query.Lit.{Lit}
-use Rattle.arti_aql_parse.specs.declared.query.Op.{Op}
 use Rattle.arti_aql_parse.specs.declared.query.Op.TheVariants.{Eq}
 use Rattle.arti_aql_parse.specs.declared.query.Sort.{Sort}
 use Rattle.arti_aql_parse.specs.declared.query.Suffixes.{Suffixes}

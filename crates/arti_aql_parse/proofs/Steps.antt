@@ -1,8 +1,8 @@
 -- Steps over the tokens that are to come.
-use Rattle.std.proofs.Common.{◌≡◌, ◌≢◌, ℕ, Bool, true, false, cond, List, Option, Some, None, Result, Ok, Err, IfOk, IfErr, refl, sym, ap, ◌∙◌, subst}
+use Rattle.std.proofs.Common.{◌≡◌, Bool, true, false, cond, Some, None, Result, Ok, Err, IfOk, IfErr, refl, sym, ap, ◌∙◌}
 use Rattle.std.proofs.lemmas.Bool.{false≢true}
 use Rattle.arti_aql_lex.specs.Lexed.{Lexed, finish, fault, token, Reading, ahead, before, Takes}
-use Rattle.arti_aql_lex.specs.Tokens.{HasToken, is_end, text_of}
+use Rattle.arti_aql_lex.specs.Tokens.{is_end, text_of}
 use Rattle.arti_aql_lex.specs.declared.token.Token.{Token}
 use Rattle.arti_aql_lex.specs.declared.token.TokenKind.{TokenKind}
 use Rattle.arti_aql_lex.specs.declared.token.TokenKind.TheVariants.{End}

@@ -1,10 +1,10 @@
 -- Suffixes that are read one after the other.
-use Rattle.std.proofs.Common.{◌≡◌, ℕ, ◌<◌, ◌≤◌, List, Bool, Some, refl, ap, arith}
+use Rattle.std.proofs.Common.{ℕ, ◌<◌, ◌≤◌, List, Bool, refl, ap, arith}
 use Rattle.arti_aql_lex.specs.Lexed.{Lexed}
 use Rattle.arti_aql_lex.specs.declared.token.TokenKind.{TokenKind}
 use Rattle.arti_aql_lex.specs.declared.token.TokenKind.TheVariants.{Dot}
 use Rattle.arti_aql_parse.specs.Front.{tail}
-use Rattle.arti_aql_parse.specs.Grammar.{Mark, ReadsText, ReadsTexts, last_text, more_texts, ReadsOrder, ReadsSort, ReadsNatural, ReadsTruth, ReadsName, ReadsSuffix, include, sort, offset, limit, distinct, ReadsSuffixes, no_suffixes}
+use Rattle.arti_aql_parse.specs.Grammar.{Mark, ReadsTexts, last_text, more_texts, ReadsOrder, ReadsSort, ReadsNatural, ReadsTruth, ReadsName, ReadsSuffix, include, sort, offset, limit, distinct, ReadsSuffixes, no_suffixes}
 use Rattle.arti_aql_parse.specs.Refusal.{RefusesSuffixes}
 use Rattle.arti_aql_parse.specs.declared.fault.ReadFault.{ReadFault}
 use Rattle.arti_aql_parse.specs.declared.query.Sort.{Sort}

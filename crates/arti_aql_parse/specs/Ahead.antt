@@ -1,10 +1,10 @@
 -- What a reader knows of the tokens that are to come.
 use Rattle.std.specs.Prelude.{◌≡◌, List, ℕ, Result, Ok, Err, Option, Some, None}
-use Rattle.arti_aql_lex.specs.Lexed.{Lexed, finish, fault, token, Reading, ahead, before}
+use Rattle.arti_aql_lex.specs.Lexed.{Lexed, fault, Reading, ahead, before}
 use Rattle.arti_aql_lex.specs.Tokens.{HasToken}
 use Rattle.arti_aql_lex.specs.declared.token.Token.{Token}
 use Rattle.arti_aql_lex.specs.declared.token.LexFault.{LexFault}
-use Rattle.arti_aql_parse.specs.Front.{tail, is_token, literal_at}
+use Rattle.arti_aql_parse.specs.Front.{tail, literal_at}
 use Rattle.arti_aql_parse.specs.declared.query.Lit.{Lit}
 
 -- the tokens to come, of which the first was read

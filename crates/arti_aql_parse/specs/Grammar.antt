@@ -1,10 +1,11 @@
 -- The grammar of a query, over the tokens of its text. Each relation says that tokens begin with a part, what the part is,
 -- and which tokens follow it. The number is how many braces and brackets may still be opened.
-use Rattle.std.specs.Prelude.{◌≡◌, ◌≢◌, ◌<◌, ◌+◌, ℕ, List, [], ◌∷◌, ◌++◌, Bool, true, false, if◌then◌else◌, Option, Some, None, is_none}
-use Rattle.arti_aql_lex.specs.Lexed.{Lexed, finish, fault, token}
+use Rattle.std.specs.Prelude.{◌≡◌, ◌≢◌, ◌<◌, ◌+◌, ℕ, List, [], ◌∷◌, Bool, true, false, Some, None, is_none}
+use Rattle.arti_aql_lex.specs.Lexed.{Lexed}
 use Rattle.arti_aql_lex.specs.declared.token.TokenKind.{TokenKind}
 use Rattle.arti_aql_lex.specs.declared.token.TokenKind.TheVariants.{Name, Words, Number, Dot, Open, Close, ObjectOpen, ObjectClose, ListOpen, ListClose, Colon, Comma, End}
 use Rattle.arti_aql_parse.specs.Words as word
+use Rattle.arti_aql_parse.specs.Separated.{separated}
 use Rattle.arti_aql_parse.specs.Front.{kind_at, first_value, tail, literal_at}
 use Rattle.arti_aql_parse.specs.Tree.{PlainMember, tests, group, Members, no_members, member, Objects, no_objects, object, PlainQuery}
 use Rattle.arti_aql_parse.specs.declared.query.Lit.{Lit}
@@ -152,9 +153,7 @@ pub data ReadsHead : Lexed → List (List ℕ) → Lexed → Type 0 where
 
 -- the names of a domain, with dots between them
 abbrev pub joined : List (List ℕ) → List ℕ
-joined [] = []
-joined (x ∷ []) = x
-joined (x ∷ y ∷ ys) = x ++ 46 ∷ joined (y ∷ ys)
+joined = separated 46
 
 abbrev pub no_suffixes : Suffixes
 no_suffixes = record { include = None; sort = None; offset = None; limit = None; distinct = None }

@@ -4,7 +4,10 @@ pub mod Tree
 pub mod View
 pub mod Fault
 pub mod Front
+pub mod Separated
 pub mod Grammar
 pub mod Refusal
 pub mod Ahead
 pub mod Spelling
+pub mod Print
+pub mod Spellable

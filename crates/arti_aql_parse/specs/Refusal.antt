@@ -1,5 +1,5 @@
 -- Where tokens are no query, and the part that should begin there, by the cases of the grammar.
-use Rattle.std.specs.Prelude.{◌≡◌, ◌≢◌, ◌<◌, ◌+◌, ℕ, List, Bool, true, false, Option, Some, None}
+use Rattle.std.specs.Prelude.{◌≡◌, ◌≢◌, ◌<◌, ◌+◌, ℕ, List, Bool, true, false, Some, None}
 use Rattle.arti_aql_lex.specs.Lexed.{Lexed}
 use Rattle.arti_aql_lex.specs.declared.token.TokenKind.{TokenKind}
 use Rattle.arti_aql_lex.specs.declared.token.TokenKind.TheVariants.{Name, Words, Number, Dot, Open, Close, ObjectOpen, ObjectClose, ListOpen, ListClose, Colon, Comma, End}
@@ -7,7 +7,7 @@ use Rattle.arti_rows.specs.declared.refusal.What.TheVariants as what
 use Rattle.arti_aql_parse.specs.Words as word
 use Rattle.arti_aql_parse.specs.Front.{kind_at, first_value, tail, literal_at, wrong}
 use Rattle.arti_aql_parse.specs.Tree.{PlainMember, Members, Objects}
-use Rattle.arti_aql_parse.specs.Grammar.{Mark, IsField, ReadsKey, ReadsText, ReadsTest, ReadsTexts, ReadsObject, ReadsMember, ReadsObjects, ReadsOrder, ReadsName, ReadsSuffix, ReadsHead, ReadsCriteria, is_fresh, no_suffixes, most_levels}
+use Rattle.arti_aql_parse.specs.Grammar.{Mark, IsField, ReadsKey, ReadsText, ReadsTest, ReadsTexts, ReadsObject, ReadsMember, ReadsOrder, ReadsName, ReadsSuffix, ReadsHead, ReadsCriteria, is_fresh, no_suffixes, most_levels}
 use Rattle.arti_aql_parse.specs.declared.fault.ReadFault.{ReadFault}
 use Rattle.arti_aql_parse.specs.declared.fault.ReadFault.TheVariants.{TooDeep}
 use Rattle.arti_aql_parse.specs.declared.query.Op.{Op}

@@ -1,5 +1,5 @@
 -- The query that a value stands for.
-use Rattle.std.specs.Prelude.{ℕ, List, [], ◌∷◌, map}
+use Rattle.std.specs.Prelude.{List, [], ◌∷◌, map}
 use Rattle.arti_aql_parse.specs.Tree.{PlainMember, tests, group, Members, no_members, member, Objects, no_objects, object, PlainQuery}
 use Rattle.arti_aql_parse.specs.declared.query.Object.{Object, fold-Object}
 use Rattle.arti_aql_parse.specs.declared.query.Member.{Member, fold-Member}

@@ -1,5 +1,5 @@
 -- The words that the grammar gives a meaning, after unescaping.
-use Rattle.std.specs.Prelude.{ℕ, ◌+◌, ◌-◌, ◌*◌, List, [], ◌∷◌, Bool, true, false, if◌then◌else◌, ◌==◌, ◌&&◌, not, Option, Some, None, is_some, ◌||◌, codes, nat_eq, fold, ℤ, pos, neg_ℤ, length, drop, slice_index}
+use Rattle.std.specs.Prelude.{ℕ, ◌+◌, ◌-◌, ◌*◌, List, Bool, true, false, if◌then◌else◌, ◌==◌, ◌&&◌, not, Option, Some, None, is_some, ◌||◌, codes, nat_eq, fold, ℤ, pos, neg_ℤ, length, drop, slice_index}
 use Rattle.std.specs.Cmp.Lexicographic.{pointwise}
 use Rattle.arti_aql_parse.specs.declared.query.Op.{Op}
 use Rattle.arti_aql_parse.specs.declared.query.Op.TheVariants.{Eq, Ne, Gt, Gte, Lt, Lte, Match, Nmatch, Before, Last}

@@ -23,8 +23,8 @@ use std::alloc::{AllocError, Global};
 // Most bytes of a query text.
 const MOST_BYTES: usize = 65_536;
 
-// Most braces and brackets that are open at once.
-const MOST_LEVELS: u32 = 32;
+/// Most braces and brackets that are open at once.
+pub const MOST_LEVELS: u32 = 32;
 
 // Reads the names of a domain, up to the parenthesis behind `find`.
 fn head(alloc: Global, parser: &mut Parser<'_>) -> Result<Vec<Text>, ReadFault>

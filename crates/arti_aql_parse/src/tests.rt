@@ -1,5 +1,12 @@
+ghost use Rattle.std.specs.Prelude.{◌≡◌, ◌≤◌, ℕ, List, length};
+ghost use Rattle.arti_aql_parse.specs.Print.{printed};
+ghost use Rattle.arti_aql_parse.specs.Spellable.{HasSpelling};
+ghost use Rattle.arti_aql_parse.specs.Spelling.{Spells, most_bytes, Answers};
+ghost use Rattle.arti_aql_parse.specs.View.{view};
+
 use super::*;
 use arti_aql_lex::LexFault;
+use std::alloc::Global;
 use std::test::Fail;
 
 // Bodies that have another form, and how far they go along with it.
@@ -332,5 +339,94 @@ fn refusals(rt: HostRuntime) -> Result<(), Fail> {
         parse(rt.alloc(), spaces.as_str()).err(),
         Some(ParseFault::QueryTooLong)
     );
+    Ok(())
+}
+
+// Queries as they may be written, and as each is printed.
+const PRINTED: [(&str, &str); 19] = [
+    (
+        "items . find ( { \"size\" : { \"$gt\" : 1 } , \"name\" : { \"$eq\" : \"x\" } } ) . limit ( 2 )",
+        "items.find({\"size\":{\"$gt\":1},\"name\":\"x\"}).limit(2)",
+    ),
+    (" find ( ) ", "find()"),
+    ("archive\n. entries .find()", "archive.entries.find()"),
+    ("items.find( {} , { } )", "items.find({},{})"),
+    (
+        "items.find({\"a\" : {\"$eq\":1, \"$eq\":2}})",
+        "items.find({\"a\":{\"$eq\":1,\"$eq\":2}})",
+    ),
+    (
+        "items.find({\"a\":{\"$ne\":null}, \"b\":null})",
+        "items.find({\"a\":{\"$ne\":null},\"b\":null})",
+    ),
+    (
+        "items.find({\"a\":-0,\"b\":-12,\"c\":999999999999999999})",
+        "items.find({\"a\":0,\"b\":-12,\"c\":999999999999999999})",
+    ),
+    (
+        "items.find({\"a\":{\"$gte\":1,\"$lt\":2,\"$lte\":3,\"$match\":\"*\",\"$nmatch\":\"?\",\"$before\":\"1d\",\"$last\":\"2d\"}})",
+        "items.find({\"a\":{\"$gte\":1,\"$lt\":2,\"$lte\":3,\"$match\":\"*\",\"$nmatch\":\"?\",\"$before\":\"1d\",\"$last\":\"2d\"}})",
+    ),
+    (
+        "items.find({\"$and\": [{\"a\":1}, {\"$or\":[ {\"$msp\":[{}]} ]}]})",
+        "items.find({\"$and\":[{\"a\":1},{\"$or\":[{\"$msp\":[{}]}]}]})",
+    ),
+    (
+        "items.find({\"\\u0061\\/\\u00e9\":\"\\u0022\\u005c\\u0008\\u000c\\u000a\\u000d\\u0009\"})",
+        "items.find({\"a/\u{e9}\":\"\\\"\\\\\\b\\f\\n\\r\\t\"})",
+    ),
+    (
+        "items.find({\"a\":\"\\u0000\\u001F\\u007f\\uD83D\\uDE00\"})",
+        "items.find({\"a\":\"\\u0000\\u001f\u{7f}\u{1f600}\"})",
+    ),
+    (
+        "items.find().include( \"a\" , \"*\" )",
+        "items.find().include(\"a\",\"*\")",
+    ),
+    (
+        "items.find().sort({ \"$asc\" : [ \"a\" , \"b\" ] })",
+        "items.find().sort({\"$asc\":[\"a\",\"b\"]})",
+    ),
+    (
+        "items.find().sort({\"$desc\":[\"a\"]})",
+        "items.find().sort({\"$desc\":[\"a\"]})",
+    ),
+    ("items.find().offset( 0 )", "items.find().offset(0)"),
+    ("items.find().limit(-0)", "items.find().limit(0)"),
+    (
+        "items.find(). distinct ( true )",
+        "items.find().distinct(true)",
+    ),
+    (
+        "items.find().distinct(false)",
+        "items.find().distinct(false)",
+    ),
+    (
+        "items.find().distinct(false).limit(4).offset(3).sort({\"$asc\":[\"a\"]}).include(\"a\")",
+        "items.find().include(\"a\").sort({\"$asc\":[\"a\"]}).offset(3).limit(4).distinct(false)",
+    ),
+];
+
+// A query that has a spelling is what is read of its printed form.
+fn read_back(alloc: Global, query: &Query) -> Result<Query, ParseFault>
+    ensures fits { HasSpelling (view query.now) → length (printed (view query.now)) ≤ most_bytes → Answers (view query.now) result }
+    ensures spelled { (text : List ℕ) → Spells text (view query.now) → Answers (view query.now) result }
+{
+    match print(alloc, query) {
+        Ok(text) => parse(alloc, text.as_str()),
+        Err(_) => Err(ParseFault::Memory),
+    }
+}
+
+#[test]
+fn printed_forms(rt: HostRuntime) -> Result<(), Fail> {
+    for (text, want) in &PRINTED {
+        let query = parse(rt.alloc(), *text)?;
+        let printed = print(rt.alloc(), &query)?;
+        assert_eq!(rt; printed.as_str(), *want, "of {text:?}");
+        let again = read_back(rt.alloc(), &query)?;
+        let same = print(rt.alloc(), &again)?;
+        assert_eq!(rt; same.as_str(), *want, "of {want:?}");
+    }
     Ok(())
 }

@@ -1,4 +1,4 @@
-use Rattle.std.proofs.Common.{◌≡◌, ◌≢◌, ◌+◌, ◌-◌, ◌++◌, ◌∷◌, [], Some, None, map, sym, ap, ◌∙◌, subst, arith, rules, refl, List, ℕ, Bool, true, false, not, ◌||◌, Option, is_some}
+use Rattle.std.proofs.Common.{◌≡◌, ◌+◌, ◌-◌, ◌∷◌, [], Some, None, map, sym, ap, ◌∙◌, subst, arith, rules, refl, List, ℕ, Bool, true, false, not, ◌||◌, Option, is_some}
 use Rattle.std.proofs.lemmas.Bool.{false≢true}
 use Rattle.arti_aql_parse.specs.Words as word
 use Rattle.arti_aql_parse.specs.declared.words.Group.{Group}
@@ -6,10 +6,9 @@ use Rattle.std.proofs.lemmas.Result.{err_from_is_err_and}
 use Rattle.std.proofs.lemmas.List.{map_push}
 use Rattle.arti_aql_lex.specs.declared.token.TokenKind.TheVariants.{ObjectOpen, ObjectClose, ListOpen}
 use Rattle.arti_aql_parse.specs.Ahead.{to_come}
-use Rattle.arti_aql_parse.specs.Front.{kind_at}
 use Rattle.arti_aql_parse.specs.Grammar as grammar
 use Rattle.arti_aql_parse.specs.Refusal as refusal
-use Rattle.arti_aql_parse.specs.View.{member_view, object_view, members_of, objects_of}
+use Rattle.arti_aql_parse.specs.View.{member_view, object_view, members_of}
 use Rattle.arti_aql_parse.proofs.RowSteps.{Goes, goes_on}
 use Rattle.arti_aql_parse.proofs.CriteriaRows.{ReadsMemberRow, ReadsObjectRow, member_smaller, object_smaller, mark_le}
 use Rattle.arti_aql_parse.proofs.TreeViews.{view-Tests, view-Object}

@@ -1,4 +1,4 @@
-use Rattle.std.proofs.Common.{ℕ, ◌+◌, ◌*◌, map}
+use Rattle.std.proofs.Common.{◌+◌, ◌*◌, map}
 use Rattle.arti_aql_parse.specs.Ahead.{to_come}
 use Rattle.arti_aql_parse.specs.Refusal.{RefusesMembers, RefusesObjects}
 use Rattle.arti_aql_parse.specs.View.{member_view, object_view}

@@ -1,4 +1,4 @@
-use Rattle.std.proofs.Common.{◌≡◌, ◌++◌, ◌∷◌, [], sym, subst}
+use Rattle.std.proofs.Common.{◌∷◌, [], sym, subst}
 use Rattle.std.proofs.lemmas.Result.{err_from_is_err_and}
 use Rattle.arti_aql_parse.specs.Ahead.{to_come}
 use Rattle.arti_aql_parse.specs.Grammar.{ReadsTexts, last_text, more_texts}

@@ -1,4 +1,4 @@
-use Rattle.std.proofs.Common.{◌≡◌, ◌<◌, ◌++◌, ◌∷◌, [], length, ap, ◌∙◌, sym, string_bytes, arith}
+use Rattle.std.proofs.Common.{◌≡◌, ◌<◌, ◌++◌, length, ap, ◌∙◌, string_bytes, arith}
 use Rattle.arti_aql_parse.proofs.Joined.{joined_first, joined_next}
 use Rattle.arti_aql_parse.proofs.reading.domain.Goals as goal
 use Rattle.arti_aql_parse.proofs.reading.domain.Goals.{then-i-gt0+in_ok-push_str, else-i-gt0}
