@@ -1,11 +1,10 @@
 -- Reading the rows and edits of a change from the front.
-use Rattle.std.specs.Prelude.{◌≡◌, ℕ, ◌-◌, ◌/◌, ◌%◌, List, [], ◌∷◌, length, codes, Bool, true, false, Option, Some, None, ℤ, not, ◌&&◌, is_none, nat_eq, nat_lt, nat_le, int_le, ◌==◌, if◌then◌else◌}
+use Rattle.std.specs.Prelude.{◌≡◌, ℕ, ◌-◌, ◌/◌, ◌%◌, List, [], ◌∷◌, length, codes, Bool, true, false, Option, Some, None, ℤ, pos, negsuc, not, ◌&&◌, is_none, nat_eq, nat_lt, nat_le, int_le, ◌==◌, if◌then◌else◌}
 use Rattle.std.specs.Int.{w16, w32, w64, cast_signed}
 use Rattle.std.specs.Str.{is_utf8}
 use Rattle.std.specs.Cmp.Lexicographic.{pointwise}
 use Rattle.arti_rows.specs.Key.{Key, whole_of, path_of, name_of}
 use Rattle.arti_rows.specs.Names.{key_fault}
-use Rattle.arti_rows.specs.Moments.{least_moment, greatest_moment}
 use Rattle.arti_rows.specs.declared.rows.Digests.{Digests}
 use Rattle.arti_rows.specs.declared.rows.SomeDigests.{SomeDigests}
 use Rattle.arti_rows.specs.declared.rows.FileRef.{FileRef}
@@ -31,8 +30,10 @@ use Rattle.arti_codec.specs.Reading.{◌>>=◌, ◌▷◌, made, tested, told_by
 unfoldable pub text_at : List ℕ → Option (List ℕ × List ℕ)
 text_at = tested is_utf8 (told_by (tested (λ n. nat_le n 4096) (number_at w16)) run_at)
 
+-- within the years 1 to 9999
 abbrev pub is_moment : ℤ → Bool
-is_moment ms = int_le least_moment ms && int_le ms greatest_moment
+is_moment (pos n) = nat_le n 253402300799999
+is_moment (negsuc n) = nat_le n 62135596799999
 
 unfoldable pub moment_at : List ℕ → Option (ℤ × List ℕ)
 moment_at = tested is_moment (made (cast_signed w64) (number_at w64))
