@@ -1,3 +1,4 @@
+pub mod Loops
 pub mod FieldLaws
 pub mod RowLaws
 pub mod EditLaws

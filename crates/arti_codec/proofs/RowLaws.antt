@@ -28,11 +28,11 @@ pub text_law : IsRead text text_at
 unfolding text text_at
 text_law = where_law IsUtf8 is_utf8 IsUtf8-from_is_utf8 is_utf8-from_IsUtf8 (behind_law length run run_at (λ n t fits. fits.0) (most_law 4096 (number_law w16 wide_16)) run_law)
 
-moment_holds : (ms : ℤ) → is_moment ms ≡ true → IsMoment ms
+pub moment_holds : (ms : ℤ) → is_moment ms ≡ true → IsMoment ms
 moment_holds (pos n) e = let h = leb-true n 253402300799999 e in (omega (arith, ints), omega (arith, ints))
 moment_holds (negsuc n) e = let h = leb-true n 62135596799999 e in (omega (arith, ints), omega (arith, ints))
 
-moment_passes : (ms : ℤ) → IsMoment ms → is_moment ms ≡ true
+pub moment_passes : (ms : ℤ) → IsMoment ms → is_moment ms ≡ true
 moment_passes (pos n) h = le-leb n 253402300799999 (omega (arith, ints, h.1))
 moment_passes (negsuc n) h = le-leb n 62135596799999 (omega (arith, ints, h.0))
 

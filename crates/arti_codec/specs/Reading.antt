@@ -14,6 +14,12 @@ GivesSeen seen (Err Memory) read rest = Unit {0}
 abbrev pub Gives : {A : Type 0} → Result A DecodeFault → Option (A × List ℕ) → List ℕ → Type 0
 Gives result read rest = GivesSeen (λ x. x) result read rest
 
+-- it is that value where the value passes the test, and a fault otherwise
+abbrev pub Passes : {A : Type 0} → Result A DecodeFault → (A → Bool) → A → Type 0
+Passes (Ok x) test y = (test y ≡ true) × (x ≡ y)
+Passes (Err NotAChange) test y = test y ≡ false
+Passes (Err Memory) test y = Unit {0}
+
 infixl 10 ◌>>=◌
 abbrev pub ◌>>=◌ : {A B : Type 0} → Option A → (A → Option B) → Option B
 o >>= f = option_and_then f o

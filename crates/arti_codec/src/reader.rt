@@ -2,6 +2,7 @@
 ghost use Rattle.std.specs.Prelude.{◌≡◌, length, IfOk};
 ghost use Rattle.std.specs.Int.{w16, w32, w64};
 ghost use Rattle.arti_codec.specs.Reading.{Gives, GivesSeen, run_at, byte_at, number_at};
+ghost use Rattle.arti_codec.specs.ReadingRows.{text_at};
 
 use crate::fault::DecodeFault;
 use std::marker::Model;
@@ -83,5 +84,21 @@ impl<'a> Reader<'a> {
         Ok(u64::from_be_bytes([
             b[0], b[1], b[2], b[3], b[4], b[5], b[6], b[7],
         ]))
+    }
+
+    // A text behind its length.
+    #[tactic(auto, unfolding(crate::specs::ReadingRows::text_at))]
+    pub fn text(&mut self) -> Result<&'a str, DecodeFault>
+        ensures { GivesSeen (λ text. text.now) result (text_at self.old) self.new }
+    {
+        let len = self.u16()?;
+        if len > 4096 {
+            return Err(DecodeFault::NotAChange);
+        }
+        let bytes = self.run(len as usize)?;
+        match str::from_utf8(bytes) {
+            Ok(text) => Ok(text),
+            Err(_) => Err(DecodeFault::NotAChange),
+        }
     }
 }
