@@ -23,10 +23,10 @@ made_takes : {A : Type 0} {f : Format A} {r : List ℕ → Option (A × List ℕ
     → (tag : ℕ) → eqb tag k ≡ true → (bytes : List ℕ) (x : Edit) (rest : List ℕ) → IsBytes bytes → made make r bytes ≡ Some (x, rest) → TookFields tag bytes x rest
 made_takes {A} {f} {r} k make p keeps spells tag is bytes x rest fits e =
     option_and_then_some (λ a. Some (make a.0, a.1)) (r bytes) (x, rest) e
-      (λ a read-a last.
-        let t = p.takes bytes a.0 a.1 fits read-a in
-        let parts : tag ∷ bytes ≡ edit_bytes (make a.0) ++ a.1 = ap (λ (n : ℕ). n ∷ bytes) (eqb-true tag k is) ∙ ap (λ (w : List ℕ). k ∷ w) t.1 ∙ ap (λ (w : List ℕ). w ++ a.1) (sym (spells a.0)) in
-        subst (λ (y : Edit × List ℕ). TookFields tag bytes y.0 y.1) (same_Some (make a.0, a.1) (x, rest) last) (keeps a.0 t.0, parts, t.2))
+    (λ a read-a last.
+    let t = p.takes bytes a.0 a.1 fits read-a in
+    let parts : tag ∷ bytes ≡ edit_bytes (make a.0) ++ a.1 = ap (λ (n : ℕ). n ∷ bytes) (eqb-true tag k is) ∙ ap (λ (w : List ℕ). k ∷ w) t.1 ∙ ap (λ (w : List ℕ). w ++ a.1) (sym (spells a.0)) in
+    subst (λ (y : Edit × List ℕ). TookFields tag bytes y.0 y.1) (same_Some (make a.0, a.1) (x, rest) last) (keeps a.0 t.0, parts, t.2))
 
 -- one number's test, and the tests behind it
 chosen : {A : Type 0} {P : Type 0} (b : Bool) (u v w : A) → (b ≡ true → u ≡ w → P) → (v ≡ w → P) → cond b u v ≡ w → P

@@ -21,54 +21,54 @@ pub record IsRead {A : Type 0} (f : Format A) (read : List ℕ → Option (A × 
 pub pair_law : {A B : Type 0} {f : Format A} {g : Format B} {r : List ℕ → Option (A × List ℕ)} {s : List ℕ → Option (B × List ℕ)} → IsRead f r → IsRead g s → IsRead (f ⨟ g) (r ▷ s)
 pair_law {A = A} {B = B} {f = f} {g = g} {r = r} {s = s} p q = record {
   takes = λ bytes x rest fits e.
-    option_and_then_some (λ a. s a.1 >>= λ b. Some ((a.0, b.0), b.1)) (r bytes) (x, rest) e
+      option_and_then_some (λ a. s a.1 >>= λ b. Some ((a.0, b.0), b.1)) (r bytes) (x, rest) e
       (λ a read-a on. option_and_then_some (λ b. Some ((a.0, b.0), b.1)) (s a.1) (x, rest) on
-        (λ b read-b last.
-          let t = p.takes bytes a.0 a.1 fits read-a in
-          let u = q.takes a.1 b.0 b.1 t.2 read-b in
-          let parts : bytes ≡ (f.spell a.0 ++ g.spell b.0) ++ b.1 = t.1 ∙ ap (λ (w : List ℕ). f.spell a.0 ++ w) u.1 ∙ sym (append_assoc (f.spell a.0) (g.spell b.0) b.1) in
-          subst (λ (y : (A × B) × List ℕ). Took (f ⨟ g) bytes y.0 y.1) (same_Some ((a.0, b.0), b.1) (x, rest) last) ((t.0, u.0), parts, u.2)));
+      (λ b read-b last.
+      let t = p.takes bytes a.0 a.1 fits read-a in
+      let u = q.takes a.1 b.0 b.1 t.2 read-b in
+      let parts : bytes ≡ (f.spell a.0 ++ g.spell b.0) ++ b.1 = t.1 ∙ ap (λ (w : List ℕ). f.spell a.0 ++ w) u.1 ∙ sym (append_assoc (f.spell a.0) (g.spell b.0) b.1) in
+      subst (λ (y : (A × B) × List ℕ). Took (f ⨟ g) bytes y.0 y.1) (same_Some ((a.0, b.0), b.1) (x, rest) last) ((t.0, u.0), parts, u.2)));
   again = λ x rest fits.
-    let first = p.again x.0 (g.spell x.1 ++ rest) fits.0 in
-    let second = q.again x.1 rest fits.1 in
-    ap (r ▷ s) (append_assoc (f.spell x.0) (g.spell x.1) rest) ∙ rw (first, second) refl;
+      let first = p.again x.0 (g.spell x.1 ++ rest) fits.0 in
+      let second = q.again x.1 rest fits.1 in
+      ap (r ▷ s) (append_assoc (f.spell x.0) (g.spell x.1) rest) ∙ rw (first, second) refl;
 }
 
 pub parts_law : {A B : Type 0} {f : Format A} {r : List ℕ → Option (A × List ℕ)} (parts : B → A) (make : A → B) → ((a : A) → parts (make a) ≡ a) → ((b : B) → make (parts b) ≡ b) → IsRead f r → IsRead (of_parts parts f) (made make r)
 parts_law {A = A} {B = B} {f = f} {r = r} parts make there back p = record {
   takes = λ bytes x rest fits e.
-    option_and_then_some (λ a. Some (make a.0, a.1)) (r bytes) (x, rest) e
+      option_and_then_some (λ a. Some (make a.0, a.1)) (r bytes) (x, rest) e
       (λ a read-a last.
-        let t = p.takes bytes a.0 a.1 fits read-a in
-        let u : Took f bytes (parts (make a.0)) a.1 = subst (λ (v : A). Took f bytes v a.1) (sym (there a.0)) t in
-        subst (λ (y : B × List ℕ). Took (of_parts parts f) bytes y.0 y.1) (same_Some (make a.0, a.1) (x, rest) last) u);
+      let t = p.takes bytes a.0 a.1 fits read-a in
+      let u : Took f bytes (parts (make a.0)) a.1 = subst (λ (v : A). Took f bytes v a.1) (sym (there a.0)) t in
+      subst (λ (y : B × List ℕ). Took (of_parts parts f) bytes y.0 y.1) (same_Some (make a.0, a.1) (x, rest) last) u);
   again = λ x rest fits. rw (p.again (parts x) rest fits) (ap (λ (y : B). Some (y, rest)) (back x));
 }
 
 pub where_law : {A : Type 0} {f : Format A} {r : List ℕ → Option (A × List ℕ)} (P : A → Type 0) (test : A → Bool) → ((x : A) → test x ≡ true → P x) → ((x : A) → P x → test x ≡ true) → IsRead f r → IsRead (where_holds P f) (tested test r)
 where_law {A = A} {f = f} {r = r} P test holds passes p = record {
   takes = λ bytes x rest fits e.
-    option_and_then_some (λ a. cond (test a.0) (Some a) None) (r bytes) (x, rest) e
+      option_and_then_some (λ a. cond (test a.0) (Some a) None) (r bytes) (x, rest) e
       (λ a read-a last.
-        let c = cond_some (test a.0) a (x, rest) last in
-        let t = p.takes bytes a.0 a.1 fits read-a in
-        subst (λ (y : A × List ℕ). Took (where_holds P f) bytes y.0 y.1) c.1 ((t.0, holds a.0 c.0), t.1, t.2));
+      let c = cond_some (test a.0) a (x, rest) last in
+      let t = p.takes bytes a.0 a.1 fits read-a in
+      subst (λ (y : A × List ℕ). Took (where_holds P f) bytes y.0 y.1) c.1 ((t.0, holds a.0 c.0), t.1, t.2));
   again = λ x rest fits. rw (p.again x rest fits.0, passes x fits.1) refl;
 }
 
 pub behind_law : {A B : Type 0} {first : Format A} {r : List ℕ → Option (A × List ℕ)} (part : B → A) (whole : A → Format B) (on : A → List ℕ → Option (B × List ℕ)) → ((a : A) (b : B) → (whole a).keeps b → part b ≡ a) → IsRead first r → ((a : A) → IsRead (whole a) (on a)) → IsRead (behind first part whole) (told_by r on)
 behind_law {A = A} {B = B} {first = first} {r = r} part whole on tells p q = record {
   takes = λ bytes x rest fits e.
-    option_and_then_some (λ a. on a.0 a.1) (r bytes) (x, rest) e
+      option_and_then_some (λ a. on a.0 a.1) (r bytes) (x, rest) e
       (λ a read-a last.
-        let t = p.takes bytes a.0 a.1 fits read-a in
-        let u = (q a.0).takes a.1 x rest t.2 last in
-        let parts : bytes ≡ (first.spell a.0 ++ (whole a.0).spell x) ++ rest = t.1 ∙ ap (λ (w : List ℕ). first.spell a.0 ++ w) u.1 ∙ sym (append_assoc (first.spell a.0) ((whole a.0).spell x) rest) in
-        subst (λ (k : A). (first.keeps k × (whole k).keeps x) × (bytes ≡ (first.spell k ++ (whole k).spell x) ++ rest) × IsBytes rest) (sym (tells a.0 x u.0)) ((t.0, u.0), parts, u.2));
+      let t = p.takes bytes a.0 a.1 fits read-a in
+      let u = (q a.0).takes a.1 x rest t.2 last in
+      let parts : bytes ≡ (first.spell a.0 ++ (whole a.0).spell x) ++ rest = t.1 ∙ ap (λ (w : List ℕ). first.spell a.0 ++ w) u.1 ∙ sym (append_assoc (first.spell a.0) ((whole a.0).spell x) rest) in
+      subst (λ (k : A). (first.keeps k × (whole k).keeps x) × (bytes ≡ (first.spell k ++ (whole k).spell x) ++ rest) × IsBytes rest) (sym (tells a.0 x u.0)) ((t.0, u.0), parts, u.2));
   again = λ x rest fits.
-    let one = p.again (part x) ((whole (part x)).spell x ++ rest) fits.0 in
-    let two = (q (part x)).again x rest fits.1 in
-    ap (told_by r on) (append_assoc (first.spell (part x)) ((whole (part x)).spell x) rest) ∙ rw (one, two) refl;
+      let one = p.again (part x) ((whole (part x)).spell x ++ rest) fits.0 in
+      let two = (q (part x)).again x rest fits.1 in
+      ap (told_by r on) (append_assoc (first.spell (part x)) ((whole (part x)).spell x) rest) ∙ rw (one, two) refl;
 }
 
 -- ---- bytes and numbers
@@ -91,13 +91,13 @@ pub run_law : (n : ℕ) → IsRead (run n) (run_at n)
 unfolding run_at
 run_law n = record {
   takes = λ bytes x rest fits e.
-    let g = cond_none (ltb (length bytes) n) (take n bytes, drop n bytes) (x, rest) e in
-    let long : n ≤ length bytes = ltb-false _ _ g.0 in
-    let len : length (take n bytes) ≡ n = omega (arith, length-take n bytes) in
-    subst (λ (y : List ℕ × List ℕ). Took (run n) bytes y.0 y.1) g.1 ((len, IsBytes-take n bytes fits), sym (take-append-drop n bytes), IsBytes-drop n bytes fits);
+      let g = cond_none (ltb (length bytes) n) (take n bytes, drop n bytes) (x, rest) e in
+      let long : n ≤ length bytes = ltb-false _ _ g.0 in
+      let len : length (take n bytes) ≡ n = omega (arith, length-take n bytes) in
+      subst (λ (y : List ℕ × List ℕ). Took (run n) bytes y.0 y.1) g.1 ((len, IsBytes-take n bytes fits), sym (take-append-drop n bytes), IsBytes-drop n bytes fits);
   again = λ x rest fits.
-    let long : ltb (length (x ++ rest)) n ≡ false = le-ltb _ _ (omega (arith, length-append x rest, fits.0)) in
-    rw (long, take_at x rest n fits.0, drop_at x rest n fits.0) refl;
+      let long : ltb (length (x ++ rest)) n ≡ false = le-ltb _ _ (omega (arith, length-append x rest, fits.0)) in
+      rw (long, take_at x rest n fits.0, drop_at x rest n fits.0) refl;
 }
 
 pub record IsWide (w : Width) : Type 0 where
@@ -159,16 +159,17 @@ wide_64 = record {
 
 -- a number is a run of bytes
 number_parts : (w : Width) → IsWide w → IsRead (number w) (made (from_be_bytes w) (run_at (byte_len w)))
+unfolding number
 number_parts w wide = record {
   takes = λ bytes x rest fits e.
-    option_and_then_some (λ a. Some (from_be_bytes w a.0, a.1)) (run_at (byte_len w) bytes) (x, rest) e
+      option_and_then_some (λ a. Some (from_be_bytes w a.0, a.1)) (run_at (byte_len w) bytes) (x, rest) e
       (λ a read-a last.
-        let t = (run_law (byte_len w)).takes bytes a.0 a.1 fits read-a in
-        let parts : bytes ≡ to_be_bytes w (from_be_bytes w a.0) ++ a.1 = t.1 ∙ ap (λ (v : List ℕ). v ++ a.1) (sym (wide.back a.0 t.0.0 t.0.1)) in
-        subst (λ (y : ℕ × List ℕ). Took (number w) bytes y.0 y.1) (same_Some (from_be_bytes w a.0, a.1) (x, rest) last) (wide.below a.0 t.0.1, parts, t.2));
+      let t = (run_law (byte_len w)).takes bytes a.0 a.1 fits read-a in
+      let parts : bytes ≡ to_be_bytes w (from_be_bytes w a.0) ++ a.1 = t.1 ∙ ap (λ (v : List ℕ). v ++ a.1) (sym (wide.back a.0 t.0.0 t.0.1)) in
+      subst (λ (y : ℕ × List ℕ). Took (number w) bytes y.0 y.1) (same_Some (from_be_bytes w a.0, a.1) (x, rest) last) (wide.below a.0 t.0.1, parts, t.2));
   again = λ x rest fits.
-    let one = (run_law (byte_len w)).again (to_be_bytes w x) rest (wide.len x, wide.bytes x) in
-    rw one (ap (λ (n : ℕ). Some (n, rest)) (wide.again x fits));
+      let one = (run_law (byte_len w)).again (to_be_bytes w x) rest (wide.len x, wide.bytes x) in
+      rw one (ap (λ (n : ℕ). Some (n, rest)) (wide.again x fits));
 }
 
 pub number_law : (w : Width) → IsWide w → IsRead (number w) (number_at w)
@@ -179,12 +180,12 @@ code_takes : {A : Type 0} (k : ℕ) (code : A → ℕ) (of : ℕ → A) → ((n 
 code_takes k code of there [] x rest fits e = absurd cc
 code_takes {A} k code of there (b ∷ bytes) x rest fits e =
     option_and_then_some (λ a. Some (of a.0, a.1)) (cond (ltb b k) (Some (b, bytes)) None) (x, rest) e
-      (λ a chosen last.
-        let c = cond_some (ltb b k) (b, bytes) a chosen in
-        let small : b < k = ltb-true b k c.0 in
-        let here : Some (of b, bytes) ≡ Some (x, rest) = ap (λ (y : ℕ × List ℕ). Some (of y.0, y.1)) c.1 ∙ last in
-        let whole : (b ∷ bytes ≡ code (of b) ∷ bytes) × IsBytes bytes = (ap (λ (n : ℕ). n ∷ bytes) (sym (there b small)), λ i. fits (suc i)) in
-        subst (λ (y : A × List ℕ). (b ∷ bytes ≡ code y.0 ∷ y.1) × IsBytes y.1) (same_Some (of b, bytes) (x, rest) here) whole)
+    (λ a chosen last.
+    let c = cond_some (ltb b k) (b, bytes) a chosen in
+    let small : b < k = ltb-true b k c.0 in
+    let here : Some (of b, bytes) ≡ Some (x, rest) = ap (λ (y : ℕ × List ℕ). Some (of y.0, y.1)) c.1 ∙ last in
+    let whole : (b ∷ bytes ≡ code (of b) ∷ bytes) × IsBytes bytes = (ap (λ (n : ℕ). n ∷ bytes) (sym (there b small)), λ i. fits (suc i)) in
+    subst (λ (y : A × List ℕ). (b ∷ bytes ≡ code y.0 ∷ y.1) × IsBytes y.1) (same_Some (of b, bytes) (x, rest) here) whole)
 
 -- a byte that stands for one of k values
 pub code_law : {A : Type 0} (k : ℕ) (code : A → ℕ) (of : ℕ → A) → ((x : A) → code x < k) → ((x : A) → of (code x) ≡ x) → ((n : ℕ) → n < k → code (of n) ≡ n) → IsRead (record { keeps = λ x. Unit {0}; spell = λ x. code x ∷ [] }) (made of (tested (λ b. nat_lt b k) byte_at))
@@ -204,10 +205,10 @@ optional_again f r p false (Some x) rest fits = absurd (false≢true fits.0)
 pub optional_law : {A : Type 0} {f : Format A} {r : List ℕ → Option (A × List ℕ)} (there : Bool) → IsRead f r → IsRead (optional there f) (optional_at there r)
 optional_law {A = A} {f = f} {r = r} true p = record {
   takes = λ bytes x rest fits e.
-    option_and_then_some (λ a. Some (Some a.0, a.1)) (r bytes) (x, rest) e
+      option_and_then_some (λ a. Some (Some a.0, a.1)) (r bytes) (x, rest) e
       (λ a read-a last.
-        let t = p.takes bytes a.0 a.1 fits read-a in
-        subst (λ (y : Option A × List ℕ). Took (optional true f) bytes y.0 y.1) (same_Some (Some a.0, a.1) (x, rest) last) ((refl, t.0), t.1, t.2));
+      let t = p.takes bytes a.0 a.1 fits read-a in
+      subst (λ (y : Option A × List ℕ). Took (optional true f) bytes y.0 y.1) (same_Some (Some a.0, a.1) (x, rest) last) ((refl, t.0), t.1, t.2));
   again = λ x rest fits. optional_again f r p true x rest fits;
 }
 optional_law {A = A} {f = f} {r = r} false p = record {
@@ -221,12 +222,12 @@ times_take {A} f r p zero bytes xs rest fits e =
     subst (λ (y : List A × List ℕ). Took (times f 0) bytes y.0 y.1) (same_Some ([], bytes) (xs, rest) e) ((refl, All-nil f.keeps), refl, fits)
 times_take {A} f r p (suc n) bytes xs rest fits e =
     option_and_then_some (λ x. times_at r n x.1 >>= λ xs. Some (x.0 ∷ xs.0, xs.1)) (r bytes) (xs, rest) e
-      (λ a read-a on. option_and_then_some (λ xs. Some (a.0 ∷ xs.0, xs.1)) (times_at r n a.1) (xs, rest) on
-        (λ b read-b last.
-          let t = p.takes bytes a.0 a.1 fits read-a in
-          let u = times_take f r p n a.1 b.0 b.1 t.2 read-b in
-          let parts : bytes ≡ (f.spell a.0 ++ flat_map f.spell b.0) ++ b.1 = t.1 ∙ ap (λ (w : List ℕ). f.spell a.0 ++ w) u.1 ∙ sym (append_assoc (f.spell a.0) (flat_map f.spell b.0) b.1) in
-          subst (λ (y : List A × List ℕ). Took (times f (suc n)) bytes y.0 y.1) (same_Some (a.0 ∷ b.0, b.1) (xs, rest) last) ((ap suc u.0.0, All-cons f.keeps a.0 b.0 t.0 u.0.1), parts, u.2)))
+    (λ a read-a on. option_and_then_some (λ xs. Some (a.0 ∷ xs.0, xs.1)) (times_at r n a.1) (xs, rest) on
+    (λ b read-b last.
+    let t = p.takes bytes a.0 a.1 fits read-a in
+    let u = times_take f r p n a.1 b.0 b.1 t.2 read-b in
+    let parts : bytes ≡ (f.spell a.0 ++ flat_map f.spell b.0) ++ b.1 = t.1 ∙ ap (λ (w : List ℕ). f.spell a.0 ++ w) u.1 ∙ sym (append_assoc (f.spell a.0) (flat_map f.spell b.0) b.1) in
+    subst (λ (y : List A × List ℕ). Took (times f (suc n)) bytes y.0 y.1) (same_Some (a.0 ∷ b.0, b.1) (xs, rest) last) ((ap suc u.0.0, All-cons f.keeps a.0 b.0 t.0 u.0.1), parts, u.2)))
 
 times_again : {A : Type 0} (f : Format A) (r : List ℕ → Option (A × List ℕ)) (p : IsRead f r) (xs : List A) (rest : List ℕ) → All f.keeps xs → times_at r (length xs) (flat_map f.spell xs ++ rest) ≡ Some (xs, rest)
 unfolding times_at

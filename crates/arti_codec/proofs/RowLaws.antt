@@ -19,9 +19,9 @@ use Rattle.arti_rows.specs.declared.rows.Class.{Class}
 use Rattle.arti_rows.specs.declared.rows.Class.TheVariants.{Local, Remote, Virtual}
 use Rattle.arti_codec.specs.Format.{Format, ◌⨟◌, of_parts, where_holds, behind, number, byte, bit, flag, IsBytes, run, times, listed, limited, IsThere, optional}
 use Rattle.arti_codec.specs.Reading.{◌>>=◌, ◌▷◌, made, tested, told_by, run_at, byte_at, flag_at, number_at, times_at, listed_at, limited_at, optional_at}
-use Rattle.arti_codec.specs.Rules.{is_build_name, is_property, is_prop_key, property_cmp, text_cmp, ascends, is_definition}
+use Rattle.arti_codec.specs.Rules.{is_build_name, is_property, property_cmp, ascends, are_prop_keys, is_definition}
 use Rattle.arti_codec.specs.ChangeBytes.{text, moment, item_key, property, properties, digests, file_ref, given, which, some_digests, flagged, stat, item_row, promotion, artifact, dependency, module_row, build_name, build_parts, build_info, info_of, build_row, class_number, class_byte, text_or_none, definition, prop_keys, file_fields, set_fields, drop_fields, promote_fields, edit, edit_list, change}
-use Rattle.arti_codec.specs.ReadingRows.{text_at, is_moment, moment_at, is_key, item_key_at, property_at, properties_at, digests_at, file_ref_at, given_of, given_at, some_digests_at, flagged_at, stat_at, item_row_at, promotion_at, artifact_at, dependency_at, module_row_at, build_name_at, build_parts_at, build_info_at, build_row_at, class_of, class_at, none_if_empty, text_or_none_at, definition_at, prop_key_at, prop_keys_at, file_fields_at, set_fields_at, drop_fields_at, promote_fields_at, fields_at, edit_at, edit_list_at, change_at}
+use Rattle.arti_codec.specs.ReadingRows.{text_at, is_moment, moment_at, is_key, item_key_at, property_at, properties_at, digests_at, file_ref_at, given_of, given_at, some_digests_at, flagged_at, stat_at, item_row_at, promotion_at, artifact_at, dependency_at, module_row_at, build_name_at, build_parts_at, build_info_at, build_row_at, class_of, class_at, none_if_empty, text_or_none_at, definition_parts_at, definition_at, prop_keys_at, file_fields_at, set_fields_at, drop_fields_at, promote_fields_at, fields_at, edit_at, edit_list_at, change_at}
 use Rattle.arti_codec.proofs.FieldLaws.{Took, IsRead, pair_law, parts_law, where_law, behind_law, run_law, wide_16, wide_32, wide_64, number_law, code_law, optional_law, times_law, listed_law, limited_law, most_law}
 
 pub text_law : IsRead text text_at
@@ -41,24 +41,24 @@ moment_fits (pos n) h = omega (arith, ints, h.1)
 moment_fits (negsuc n) h = omega (arith, ints, h.0)
 
 pub moment_law : IsRead moment moment_at
-unfolding moment moment_at
+unfolding moment moment_at number
 moment_law = record {
   takes = λ bytes x rest fits e.
-    option_and_then_some (λ a. cond (is_moment a.0) (Some a) None) (made (cast_signed w64) (number_at w64) bytes) (x, rest) e
+      option_and_then_some (λ a. cond (is_moment a.0) (Some a) None) (made (cast_signed w64) (number_at w64) bytes) (x, rest) e
       (λ a read-a last.
-        let c = cond_some (is_moment a.0) a (x, rest) last in
-        option_and_then_some (λ n. Some (cast_signed w64 n.0, n.1)) (number_at w64 bytes) a read-a
-          (λ n read-n made-a.
-            let t = (number_law w64 wide_64).takes bytes n.0 n.1 fits read-n in
-            let back : cast_unsigned w64 (cast_signed w64 n.0) ≡ n.0 = of_z-to_z w64 n.0 t.0 in
-            let same : (cast_signed w64 n.0, n.1) ≡ (x, rest) = same_Some (cast_signed w64 n.0, n.1) a made-a ∙ c.1 in
-            let good : is_moment (cast_signed w64 n.0) ≡ true = ap (λ (y : ℤ × List ℕ). is_moment y.0) (same_Some (cast_signed w64 n.0, n.1) a made-a) ∙ c.0 in
-            let u : Took (number w64) bytes (cast_unsigned w64 (cast_signed w64 n.0)) n.1 = subst (λ (k : ℕ). Took (number w64) bytes k n.1) (sym back) t in
-            subst (λ (y : ℤ × List ℕ). Took (where_holds IsMoment (of_parts (cast_unsigned w64) (number w64))) bytes y.0 y.1) same ((u.0, moment_holds (cast_signed w64 n.0) good), u.1, u.2)));
+      let c = cond_some (is_moment a.0) a (x, rest) last in
+      option_and_then_some (λ n. Some (cast_signed w64 n.0, n.1)) (number_at w64 bytes) a read-a
+      (λ n read-n made-a.
+      let t = (number_law w64 wide_64).takes bytes n.0 n.1 fits read-n in
+      let back : cast_unsigned w64 (cast_signed w64 n.0) ≡ n.0 = of_z-to_z w64 n.0 t.0 in
+      let same : (cast_signed w64 n.0, n.1) ≡ (x, rest) = same_Some (cast_signed w64 n.0, n.1) a made-a ∙ c.1 in
+      let good : is_moment (cast_signed w64 n.0) ≡ true = ap (λ (y : ℤ × List ℕ). is_moment y.0) (same_Some (cast_signed w64 n.0, n.1) a made-a) ∙ c.0 in
+      let u : Took (number w64) bytes (cast_unsigned w64 (cast_signed w64 n.0)) n.1 = subst (λ (k : ℕ). Took (number w64) bytes k n.1) (sym back) t in
+      subst (λ (y : ℤ × List ℕ). Took (where_holds IsMoment (of_parts (cast_unsigned w64) (number w64))) bytes y.0 y.1) same ((u.0, moment_holds (cast_signed w64 n.0) good), u.1, u.2)));
   again = λ x rest fits.
-    let one = (number_law w64 wide_64).again (cast_unsigned w64 x) rest fits.0 in
-    let back : cast_signed w64 (cast_unsigned w64 x) ≡ x = to_z-of_z w64 x (moment_fits x fits.1) in
-    rw (one, back, moment_passes x fits.1) refl;
+      let one = (number_law w64 wide_64).again (cast_unsigned w64 x) rest fits.0 in
+      let back : cast_signed w64 (cast_unsigned w64 x) ≡ x = to_z-of_z w64 x (moment_fits x fits.1) in
+      rw (one, back, moment_passes x fits.1) refl;
 }
 
 none_is : {A : Type 0} (o : Option A) → is_none o ≡ true → o ≡ None
@@ -88,8 +88,8 @@ key_passes k h =
     let same_path = pointwise nat_eq (path_of (whole_of k)) k.path in
     let same_name = pointwise nat_eq (name_of (whole_of k)) k.name in
     and_from (fault && same_path) same_name
-      (and_from fault same_path (ap (λ (o : Option KeyFault). is_none o) h.good) ((bytes_decides (path_of (whole_of k)) k.path).1 path))
-      ((bytes_decides (name_of (whole_of k)) k.name).1 name)
+    (and_from fault same_path (ap (λ (o : Option KeyFault). is_none o) h.good) ((bytes_decides (path_of (whole_of k)) k.path).1 path))
+    ((bytes_decides (name_of (whole_of k)) k.name).1 name)
 
 pub item_key_law : IsRead item_key item_key_at
 unfolding item_key item_key_at
@@ -176,11 +176,11 @@ some_digests_law = behind_law which
     (λ g. of_parts (λ d. (d.md5, (d.sha1, d.sha256))) (optional g.md5 (run 16) ⨟ optional g.sha1 (run 20) ⨟ optional g.sha256 (run 32)))
     (λ g. made (λ t. record { md5 = t.0; sha1 = t.1.0; sha256 = t.1.1 }) (optional_at g.md5 (run_at 16) ▷ optional_at g.sha1 (run_at 20) ▷ optional_at g.sha256 (run_at 32)))
     (λ g d fits. ap (λ (b : Bool). record { md5 = b; sha1 = is_some d.sha1; sha256 = is_some d.sha256 }) (there_is (run 16).keeps g.md5 d.md5 fits.0)
-      ∙ ap (λ (b : Bool). record { md5 = g.md5; sha1 = b; sha256 = is_some d.sha256 }) (there_is (run 20).keeps g.sha1 d.sha1 fits.1.0)
-      ∙ ap (λ (b : Bool). record { md5 = g.md5; sha1 = g.sha1; sha256 = b }) (there_is (run 32).keeps g.sha256 d.sha256 fits.1.1))
+    ∙ ap (λ (b : Bool). record { md5 = g.md5; sha1 = b; sha256 = is_some d.sha256 }) (there_is (run 20).keeps g.sha1 d.sha1 fits.1.0)
+    ∙ ap (λ (b : Bool). record { md5 = g.md5; sha1 = g.sha1; sha256 = b }) (there_is (run 32).keeps g.sha256 d.sha256 fits.1.1))
     given_law
     (λ g. parts_law (λ d. (d.md5, (d.sha1, d.sha256))) (λ t. record { md5 = t.0; sha1 = t.1.0; sha256 = t.1.1 }) (λ a. refl) (λ b. refl)
-      (pair_law (optional_law g.md5 (run_law 16)) (pair_law (optional_law g.sha1 (run_law 20)) (optional_law g.sha256 (run_law 32)))))
+    (pair_law (optional_law g.md5 (run_law 16)) (pair_law (optional_law g.sha1 (run_law 20)) (optional_law g.sha256 (run_law 32)))))
 
 pub flagged_law : {A : Type 0} {f : Format A} {r : List ℕ → Option (A × List ℕ)} → IsRead f r → IsRead (flagged f) (flagged_at r)
 flagged_law {f = f} {r = r} p = behind_law is_some (λ there. optional there f) (λ there. optional_at there r) (λ b o fits. there_is f.keeps b o fits) flag_law (λ there. optional_law there p)
@@ -230,16 +230,16 @@ pub build_info_law : IsRead build_info build_info_at
 unfolding build_info build_info_at
 build_info_law = record {
   takes = λ bytes x rest fits e.
-    option_and_then_some (λ a. cond (leb (length bytes - length a.1) 33554432) (Some a) None) (build_parts_at bytes) (x, rest) e
+      option_and_then_some (λ a. cond (leb (length bytes - length a.1) 33554432) (Some a) None) (build_parts_at bytes) (x, rest) e
       (λ a read-a last.
-        let c = cond_some (leb (length bytes - length a.1) 33554432) a (x, rest) last in
-        let t = build_parts_law.takes bytes a.0 a.1 fits read-a in
-        let long : length (build_parts.spell a.0) ≤ 33554432 = omega (arith, leb-true _ _ c.0, ap (λ (w : List ℕ). length w) t.1, length-append (build_parts.spell a.0) a.1) in
-        subst (λ (y : _ × List ℕ). Took build_info bytes y.0 y.1) c.1 ((t.0, long), t.1, t.2));
+      let c = cond_some (leb (length bytes - length a.1) 33554432) a (x, rest) last in
+      let t = build_parts_law.takes bytes a.0 a.1 fits read-a in
+      let long : length (build_parts.spell a.0) ≤ 33554432 = omega (arith, leb-true _ _ c.0, ap (λ (w : List ℕ). length w) t.1, length-append (build_parts.spell a.0) a.1) in
+      subst (λ (y : _ × List ℕ). Took build_info bytes y.0 y.1) c.1 ((t.0, long), t.1, t.2));
   again = λ x rest fits.
-    let one = build_parts_law.again x rest fits.0 in
-    let short : leb (length (build_parts.spell x ++ rest) - length rest) 33554432 ≡ true = le-leb _ _ (omega (arith, fits.1, length-append (build_parts.spell x) rest)) in
-    rw (one, short) refl;
+      let one = build_parts_law.again x rest fits.0 in
+      let short : leb (length (build_parts.spell x ++ rest) - length rest) 33554432 ≡ true = le-leb _ _ (omega (arith, fits.1, length-append (build_parts.spell x) rest)) in
+      rw (one, short) refl;
 }
 
 pub build_row_law : IsRead build_row build_row_at
@@ -286,28 +286,24 @@ pub text_or_none_law : IsRead text_or_none text_or_none_at
 unfolding text_or_none text_or_none_at
 text_or_none_law = record {
   takes = λ bytes x rest fits e.
-    option_and_then_some (λ a. Some (none_if_empty a.0, a.1)) (text_at bytes) (x, rest) e
+      option_and_then_some (λ a. Some (none_if_empty a.0, a.1)) (text_at bytes) (x, rest) e
       (λ a read-a last.
-        let t = text_law.takes bytes a.0 a.1 fits read-a in
-        let u : Took text bytes (unwrap_or (none_if_empty a.0) []) a.1 = subst (λ (v : List ℕ). Took text bytes v a.1) (sym (none_or a.0)) t in
-        subst (λ (y : Option (List ℕ) × List ℕ). Took (where_holds (λ t. t ≢ Some []) (of_parts (λ t. unwrap_or t []) text)) bytes y.0 y.1) (same_Some (none_if_empty a.0, a.1) (x, rest) last) ((u.0, none_never a.0), u.1, u.2));
+      let t = text_law.takes bytes a.0 a.1 fits read-a in
+      let u : Took text bytes (unwrap_or (none_if_empty a.0) []) a.1 = subst (λ (v : List ℕ). Took text bytes v a.1) (sym (none_or a.0)) t in
+      subst (λ (y : Option (List ℕ) × List ℕ). Took (where_holds (λ t. t ≢ Some []) (of_parts (λ t. unwrap_or t []) text)) bytes y.0 y.1) (same_Some (none_if_empty a.0, a.1) (x, rest) last) ((u.0, none_never a.0), u.1, u.2));
   again = λ x rest fits. rw (text_law.again (unwrap_or x []) rest fits.0) (ap (λ (o : Option (List ℕ)). Some (o, rest)) (none_back x fits.1));
 }
 
 pub definition_law : IsRead definition definition_at
-unfolding definition definition_at
+unfolding definition definition_at definition_parts_at
 definition_law = where_law (λ d. is_definition d ≡ true) is_definition (λ d e. e) (λ d e. e)
     (parts_law (λ d. (d.key, (d.class, (d.url, (d.members, (d.default_to, (d.includes, d.excludes)))))))
-      (λ t. record { key = t.0; class = t.1.0; url = t.1.1.0; members = t.1.1.1.0; default_to = t.1.1.1.1.0; includes = t.1.1.1.1.1.0; excludes = t.1.1.1.1.1.1 }) (λ a. refl) (λ b. refl)
-      (pair_law text_law (pair_law class_law (pair_law text_law (pair_law (limited_law w16 256 wide_16 text_law) (pair_law text_or_none_law (pair_law text_law text_law)))))))
-
-pub prop_key_law : IsRead (where_holds (λ key. is_prop_key key ≡ true) text) prop_key_at
-unfolding prop_key_at
-prop_key_law = where_law (λ key. is_prop_key key ≡ true) is_prop_key (λ k e. e) (λ k e. e) text_law
+    (λ t. record { key = t.0; class = t.1.0; url = t.1.1.0; members = t.1.1.1.0; default_to = t.1.1.1.1.0; includes = t.1.1.1.1.1.0; excludes = t.1.1.1.1.1.1 }) (λ a. refl) (λ b. refl)
+    (pair_law text_law (pair_law class_law (pair_law text_law (pair_law (limited_law w16 256 wide_16 text_law) (pair_law text_or_none_law (pair_law text_law text_law)))))))
 
 pub prop_keys_law : IsRead prop_keys prop_keys_at
 unfolding prop_keys prop_keys_at
-prop_keys_law = where_law (λ keys. ascends text_cmp keys ≡ true) (ascends text_cmp) (λ k e. e) (λ k e. e) (listed_law w16 wide_16 prop_key_law)
+prop_keys_law = where_law (λ keys. are_prop_keys keys ≡ true) are_prop_keys (λ k e. e) (λ k e. e) (listed_law w16 wide_16 text_law)
 
 pub file_fields_law : IsRead file_fields file_fields_at
 unfolding file_fields file_fields_at

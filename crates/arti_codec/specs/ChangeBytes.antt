@@ -24,7 +24,7 @@ use Rattle.arti_rows.specs.declared.edits.Edit.{Edit}
 use Rattle.arti_rows.specs.declared.edits.Edit.TheVariants as edits
 use Rattle.arti_rows.specs.declared.edits.Change.{Change}
 use Rattle.arti_codec.specs.Format.{Format, ◌⨟◌, of_parts, where_holds, behind, number, byte, bit, flag, run, listed, limited, optional}
-use Rattle.arti_codec.specs.Rules.{is_build_name, is_property, is_prop_key, property_cmp, text_cmp, ascends, is_definition}
+use Rattle.arti_codec.specs.Rules.{is_build_name, is_property, property_cmp, ascends, are_prop_keys, is_definition}
 
 -- at most 4,096 bytes of UTF-8 behind their number
 unfoldable pub text : Format (List ℕ)
@@ -125,9 +125,8 @@ unfoldable pub definition : Format RepoDef
 definition = where_holds (λ d. is_definition d ≡ true) (of_parts (λ d. (d.key, (d.class, (d.url, (d.members, (d.default_to, (d.includes, d.excludes)))))))
     (text ⨟ class_byte ⨟ text ⨟ limited w16 256 text ⨟ text_or_none ⨟ text ⨟ text))
 
--- property keys, ascending and distinct
 unfoldable pub prop_keys : Format (List (List ℕ))
-prop_keys = where_holds (λ keys. ascends text_cmp keys ≡ true) (listed w16 (where_holds (λ key. is_prop_key key ≡ true) text))
+prop_keys = where_holds (λ keys. are_prop_keys keys ≡ true) (listed w16 text)
 
 -- the fields of the edits that have several
 unfoldable pub file_fields : Format (Key × (Given × (FileRef × List Property)))

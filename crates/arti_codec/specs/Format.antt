@@ -27,7 +27,7 @@ abbrev pub behind : {A B : Type 0} → Format A → (B → A) → (A → Format 
 behind first part whole = record { keeps = λ x. first.keeps (part x) × (whole (part x)).keeps x; spell = λ x. first.spell (part x) ++ (whole (part x)).spell x }
 
 -- an unsigned number, its greatest byte first
-abbrev pub number : Width → Format ℕ
+unfoldable pub number : Width → Format ℕ
 number w = record { keeps = λ n. n < 256 ^ byte_len w; spell = to_be_bytes w }
 
 -- one byte

@@ -3,3 +3,4 @@ pub mod Rules
 pub mod ChangeBytes
 pub mod Reading
 pub mod ReadingRows
+pub mod Seen

@@ -24,7 +24,7 @@ use Rattle.arti_rows.specs.declared.edits.BuildInfo.{BuildInfo}
 use Rattle.arti_rows.specs.declared.edits.Edit.{Edit}
 use Rattle.arti_rows.specs.declared.edits.Edit.TheVariants as edits
 use Rattle.arti_rows.specs.declared.edits.Change.{Change}
-use Rattle.arti_codec.specs.Rules.{is_build_name, is_property, is_prop_key, property_cmp, text_cmp, ascends, is_definition}
+use Rattle.arti_codec.specs.Rules.{is_build_name, is_property, property_cmp, ascends, are_prop_keys, is_definition}
 use Rattle.arti_codec.specs.Reading.{◌>>=◌, ◌▷◌, made, tested, told_by, run_at, byte_at, flag_at, number_at, listed_at, limited_at, optional_at}
 
 unfoldable pub text_at : List ℕ → Option (List ℕ × List ℕ)
@@ -75,12 +75,12 @@ stat_at = made (λ t. record { downloads = t.0; downloaded = t.1.0; downloaded_b
 unfoldable pub item_row_at : List ℕ → Option (ItemRow × List ℕ)
 item_row_at =
     made (λ t. record { key = t.0; created = t.1.0; created_by = t.1.1.0; modified = t.1.1.1.0; modified_by = t.1.1.1.1.0; updated = t.1.1.1.1.1.0; given = t.1.1.1.1.1.1.0; file = t.1.1.1.1.1.1.1.0; props = t.1.1.1.1.1.1.1.1.0; stat = t.1.1.1.1.1.1.1.1.1 })
-      (item_key_at ▷ moment_at ▷ text_at ▷ moment_at ▷ text_at ▷ moment_at ▷ given_at ▷ flagged_at file_ref_at ▷ properties_at 1024 ▷ flagged_at stat_at)
+    (item_key_at ▷ moment_at ▷ text_at ▷ moment_at ▷ text_at ▷ moment_at ▷ given_at ▷ flagged_at file_ref_at ▷ properties_at 1024 ▷ flagged_at stat_at)
 
 unfoldable pub promotion_at : List ℕ → Option (PromotionRow × List ℕ)
 promotion_at =
     made (λ t. record { created = t.0; created_by = t.1.0; status = t.1.1.0; repo = t.1.1.1.0; comment = t.1.1.1.1.0; user = t.1.1.1.1.1 })
-      (moment_at ▷ text_at ▷ text_at ▷ text_at ▷ text_at ▷ text_at)
+    (moment_at ▷ text_at ▷ text_at ▷ text_at ▷ text_at ▷ text_at)
 
 unfoldable pub artifact_at : List ℕ → Option (ArtifactRow × List ℕ)
 artifact_at = made (λ t. record { name = t.0; kind = t.1.0; digests = t.1.1 }) (text_at ▷ text_at ▷ some_digests_at)
@@ -97,7 +97,7 @@ build_name_at = tested is_build_name text_at
 unfoldable pub build_parts_at : List ℕ → Option (BuildInfo × List ℕ)
 build_parts_at =
     made (λ t. record { name = t.0; number = t.1.0; started = t.1.1.0; url = t.1.1.1.0; props = t.1.1.1.1.0; modules = t.1.1.1.1.1.0; document = t.1.1.1.1.1.1 })
-      (build_name_at ▷ build_name_at ▷ moment_at ▷ text_at ▷ properties_at 8192 ▷ listed_at w32 module_row_at ▷ told_by (number_at w32) run_at)
+    (build_name_at ▷ build_name_at ▷ moment_at ▷ text_at ▷ properties_at 8192 ▷ listed_at w32 module_row_at ▷ told_by (number_at w32) run_at)
 
 unfoldable pub build_info_at : List ℕ → Option (BuildInfo × List ℕ)
 build_info_at bytes = build_parts_at bytes >>= λ x. if nat_le (length bytes - length x.1) 33554432 then Some x else None
@@ -105,7 +105,7 @@ build_info_at bytes = build_parts_at bytes >>= λ x. if nat_le (length bytes - l
 unfoldable pub build_row_at : List ℕ → Option (BuildRow × List ℕ)
 build_row_at =
     made (λ t. record { name = t.0.name; number = t.0.number; started = t.0.started; url = t.0.url; created = t.1.0; created_by = t.1.1.0; modified = t.1.1.1.0; modified_by = t.1.1.1.1.0; props = t.0.props; modules = t.0.modules; promotions = t.1.1.1.1.1; document = t.0.document })
-      (build_info_at ▷ moment_at ▷ text_at ▷ moment_at ▷ text_at ▷ limited_at w32 1024 promotion_at)
+    (build_info_at ▷ moment_at ▷ text_at ▷ moment_at ▷ text_at ▷ limited_at w32 1024 promotion_at)
 
 abbrev pub class_of : ℕ → Class
 class_of n = if n == 0 then Local else (if n == 1 then Remote else Virtual)
@@ -120,16 +120,17 @@ none_if_empty (b ∷ bytes) = Some (b ∷ bytes)
 unfoldable pub text_or_none_at : List ℕ → Option (Option (List ℕ) × List ℕ)
 text_or_none_at = made none_if_empty text_at
 
-unfoldable pub definition_at : List ℕ → Option (RepoDef × List ℕ)
-definition_at =
-    tested is_definition (made (λ t. record { key = t.0; class = t.1.0; url = t.1.1.0; members = t.1.1.1.0; default_to = t.1.1.1.1.0; includes = t.1.1.1.1.1.0; excludes = t.1.1.1.1.1.1 })
-      (text_at ▷ class_at ▷ text_at ▷ limited_at w16 256 text_at ▷ text_or_none_at ▷ text_at ▷ text_at))
+-- a definition, whatever its rules
+unfoldable pub definition_parts_at : List ℕ → Option (RepoDef × List ℕ)
+definition_parts_at =
+    made (λ t. record { key = t.0; class = t.1.0; url = t.1.1.0; members = t.1.1.1.0; default_to = t.1.1.1.1.0; includes = t.1.1.1.1.1.0; excludes = t.1.1.1.1.1.1 })
+    (text_at ▷ class_at ▷ text_at ▷ limited_at w16 256 text_at ▷ text_or_none_at ▷ text_at ▷ text_at)
 
-unfoldable pub prop_key_at : List ℕ → Option (List ℕ × List ℕ)
-prop_key_at = tested is_prop_key text_at
+unfoldable pub definition_at : List ℕ → Option (RepoDef × List ℕ)
+definition_at = tested is_definition definition_parts_at
 
 unfoldable pub prop_keys_at : List ℕ → Option (List (List ℕ) × List ℕ)
-prop_keys_at = tested (ascends text_cmp) (listed_at w16 prop_key_at)
+prop_keys_at = tested are_prop_keys (listed_at w16 text_at)
 
 unfoldable pub file_fields_at : List ℕ → Option ((Key × (Given × (FileRef × List Property))) × List ℕ)
 file_fields_at = item_key_at ▷ given_at ▷ file_ref_at ▷ properties_at 1024

@@ -52,6 +52,10 @@ abbrev pub ascends : {A : Type 0} → (A → A → Ordering) → List A → Bool
 ascends cmp [] = true
 ascends cmp (x ∷ xs) = comes_first cmp x xs && ascends cmp xs
 
+-- property keys, ascending and distinct
+abbrev pub are_prop_keys : List (List ℕ) → Bool
+are_prop_keys keys = list_all is_prop_key keys && ascends text_cmp keys
+
 -- A remote has room for the name of its cache, and a URL; a virtual repository alone has members, which are repositories' keys.
 abbrev pub fits_class : Class → List ℕ → List ℕ → List (List ℕ) → Bool
 fits_class Local key url members = length url == 0 && length members == 0

@@ -6,5 +6,4 @@ ghost use Rattle.arti_codec.specs.ChangeBytes.{ChangeBytes};
 /// Different changes have different bytes.
 pub fn bytes_are_of_one_change()
     ensures { (bytes : List ℕ) (c d : Change) → ChangeBytes bytes c → ChangeBytes bytes d → c ≡ d }
-{
-}
+{}

@@ -1,9 +1,13 @@
 //! Changes as bytes, and back.
 #![tactic(auto)]
 
+mod builds;
+mod definitions;
 mod fault;
 mod field;
+mod files;
 mod laws;
+mod props;
 mod reader;
 mod texts;
 

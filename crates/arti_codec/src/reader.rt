@@ -1,7 +1,7 @@
 // Bytes that are read from the front.
 ghost use Rattle.std.specs.Prelude.{◌≡◌, length, IfOk};
 ghost use Rattle.std.specs.Int.{w16, w32, w64};
-ghost use Rattle.arti_codec.specs.Reading.{Gives, GivesSeen, run_at, byte_at, number_at};
+ghost use Rattle.arti_codec.specs.Reading.{Gives, GivesSeen, run_at, byte_at, flag_at, number_at};
 ghost use Rattle.arti_codec.specs.ReadingRows.{text_at};
 
 use crate::fault::DecodeFault;
@@ -60,6 +60,18 @@ impl<'a> Reader<'a> {
         }
     }
 
+    // 1 for true and 0 for false.
+    #[tactic(auto, unfolding(crate::specs::Reading::flag_at))]
+    pub fn flag(&mut self) -> Result<bool, DecodeFault>
+        ensures { Gives result (flag_at self.old) self.new }
+    {
+        let byte = self.u8()?;
+        if byte >= 2 {
+            return Err(DecodeFault::NotAChange);
+        }
+        Ok(byte == 1)
+    }
+
     #[tactic(auto, unfolding(crate::specs::Reading::number_at))]
     pub fn u16(&mut self) -> Result<u16, DecodeFault>
         ensures { Gives result (number_at w16 self.old) self.new }
@@ -81,9 +93,7 @@ impl<'a> Reader<'a> {
         ensures { Gives result (number_at w64 self.old) self.new }
     {
         let b = self.run(8)?;
-        Ok(u64::from_be_bytes([
-            b[0], b[1], b[2], b[3], b[4], b[5], b[6], b[7],
-        ]))
+        Ok(u64::from_be_bytes([b[0], b[1], b[2], b[3], b[4], b[5], b[6], b[7]]))
     }
 
     // A text behind its length.

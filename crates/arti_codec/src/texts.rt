@@ -10,7 +10,7 @@ ghost use Rattle.arti_codec.specs.Reading.{Gives, Passes};
 ghost use Rattle.arti_codec.specs.ReadingRows.{text_at, moment_at, is_key, item_key_at, build_name_at};
 
 use crate::fault::DecodeFault;
-use crate::field::Field;
+use crate::field::{Field, put_u16, put_u64};
 use crate::reader::Reader;
 use arti_rows::{ItemKey, KeyFault, Moment, Text};
 use std::alloc::{AllocError, Global};
@@ -23,7 +23,7 @@ impl Field for Text {
     #[tactic(auto, unfolding(crate::specs::ChangeBytes::text))]
     fn put(&self, out: &mut Vec<u8>) -> Result<(), AllocError> {
         let bytes = self.as_str().as_bytes();
-        out.extend_from_slice(&(bytes.len() as u16).to_be_bytes())?;
+        put_u16(out, bytes.len() as u16)?;
         out.extend_from_slice(bytes)?;
         Ok(())
     }
@@ -41,8 +41,7 @@ impl Field for Moment {
 
     #[tactic(auto, unfolding(crate::specs::ChangeBytes::moment))]
     fn put(&self, out: &mut Vec<u8>) -> Result<(), AllocError> {
-        out.extend_from_slice(&self.ms().to_be_bytes())?;
-        Ok(())
+        put_u64(out, self.ms().cast_unsigned())
     }
 
     #[tactic(auto, unfolding(crate::specs::ReadingRows::moment_at), using(crate::proofs::RowLaws::moment_holds, crate::proofs::RowLaws::moment_passes))]
@@ -78,12 +77,7 @@ impl Field for ItemKey {
 }
 
 // The key of these three parts.
-fn key_of_parts(
-    alloc: Global,
-    repo: &str,
-    path: &str,
-    name: &str,
-) -> Result<ItemKey, DecodeFault>
+fn key_of_parts(alloc: Global, repo: &str, path: &str, name: &str) -> Result<ItemKey, DecodeFault>
     ensures { Passes result is_key (record { repo = repo.now; path = path.now; name = name.now }) }
 {
     if path == "." {
@@ -142,13 +136,13 @@ fn is_build_name(name: &str) -> bool
     !name.is_empty() && name.len() <= 255 && !has_control(name.as_bytes())
 }
 
-fn has_control(bytes: &[u8]) -> bool
+pub fn has_control(bytes: &[u8]) -> bool
     ensures { result ≡ list_any is_control bytes.now }
 {
     bytes.iter().any(|b| is_control(*b))
 }
 
-fn is_control(b: u8) -> bool
+pub fn is_control(b: u8) -> bool
     ensures { result ≡ is_control b }
 {
     b < 32 || b == 127
