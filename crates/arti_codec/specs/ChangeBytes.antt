@@ -188,6 +188,10 @@ edit_list = where_holds (λ es. 1 ≤ length es) (listed w32 edit)
 unfoldable pub change : Format Change
 change = of_parts (λ c. (c.moment, (c.user, c.edits))) (moment ⨟ text ⨟ edit_list)
 
+-- the change keeps the rules
+abbrev pub HasBytes : Change → Type 0
+HasBytes c = change.keeps c
+
 -- these are the bytes of the change
 abbrev pub ChangeBytes : List ℕ → Change → Type 0
-ChangeBytes bytes c = change.keeps c × (bytes ≡ change.spell c)
+ChangeBytes bytes c = HasBytes c × (bytes ≡ change.spell c)

@@ -230,7 +230,7 @@ impl Field for BuildInfo {
     fn take(alloc: Global, reader: &mut Reader<'_>) -> Result<BuildInfo, DecodeFault> {
         let before = reader.len();
         let info = take_parts(alloc, reader)?;
-        if before - reader.len() > 33_554_432 {
+        if before.saturating_sub(reader.len()) > 33_554_432 {
             return Err(DecodeFault::NotAChange);
         }
         Ok(info)

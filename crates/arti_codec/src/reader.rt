@@ -8,6 +8,7 @@ use crate::fault::DecodeFault;
 use std::marker::Model;
 
 // The bytes that aren't read yet.
+#[derive(Drop)]
 pub struct Reader<'a> {
     rest: &'a [u8],
 }
