@@ -1,14 +1,16 @@
 -- The laws of the edits and of a change.
 use Rattle.std.proofs.Common.{◌≡◌, ◌≢◌, ℕ, zero, suc, ◌+◌, ◌<◌, ◌≤◌, Bool, true, false, cond, eqb, List, [], ◌∷◌, ◌++◌, length, Option, Some, None, Result, Ok, Err, refl, sym, ap, subst, ◌∙◌, append_assoc, append-nil, arith}
-use Rattle.std.specs.Prelude.{nat_le}
+use Rattle.std.specs.Prelude.{nat_le, IsErrOf}
 use Rattle.std.specs.Int.{w32}
 use Rattle.std.proofs.lemmas.Bool.{leb-true, le-leb, eqb-true, cases_Bool}
-use Rattle.std.proofs.lemmas.Option.{option_and_then_some, same_Some, cond_some}
+use Rattle.std.proofs.lemmas.Option.{option_and_then_some, same_Some, cond_some, none-some}
+use Rattle.arti_codec.specs.declared.fault.DecodeFault.{DecodeFault}
+use Rattle.arti_codec.specs.declared.fault.DecodeFault.TheVariants.{NotAChange, Memory}
 use Rattle.arti_rows.specs.declared.edits.Edit.{Edit}
 use Rattle.arti_rows.specs.declared.edits.Edit.TheVariants as edits
 use Rattle.arti_rows.specs.declared.edits.Change.{Change}
 use Rattle.arti_codec.specs.Format.{Format, ◌⨟◌, of_parts, where_holds, IsBytes, listed}
-use Rattle.arti_codec.specs.Reading.{◌>>=◌, ◌▷◌, made, tested, told_by, byte_at, listed_at}
+use Rattle.arti_codec.specs.Reading.{Gives, ◌>>=◌, ◌▷◌, made, tested, told_by, byte_at, listed_at}
 use Rattle.arti_codec.specs.ChangeBytes.{text, moment, item_key, file_ref, item_row, build_name, build_info, build_row, definition, file_fields, set_fields, drop_fields, promote_fields, KeepsEdit, edit_bytes, edit, edit_list, change, ChangeBytes}
 use Rattle.arti_codec.specs.ReadingRows.{text_at, moment_at, item_key_at, file_ref_at, item_row_at, build_name_at, build_info_at, build_row_at, definition_at, file_fields_at, set_fields_at, drop_fields_at, promote_fields_at, fields_at, edit_at, edit_list_at, change_at}
 use Rattle.arti_codec.proofs.FieldLaws.{Took, IsRead, pair_law, parts_law, where_law, listed_law, wide_32}
@@ -102,3 +104,16 @@ change_read bytes c h = ap change_at (h.1 ∙ sym (append-nil (change.spell c)))
 
 pub one_change : (bytes : List ℕ) (c d : Change) → ChangeBytes bytes c → ChangeBytes bytes d → c ≡ d
 one_change bytes c d p q = ap (λ (y : Change × List ℕ). y.0) (same_Some (c, []) (d, []) (sym (change_read bytes c p) ∙ change_read bytes d q))
+
+-- what isn't read has no change
+pub never : (bytes : List ℕ) → change_at bytes ≡ None → (c : Change) → ChangeBytes bytes c → ⊥
+never bytes e c h = none-some (c, []) (sym e ∙ change_read bytes c h)
+
+-- nor has what is followed by more bytes
+pub never_more : (bytes : List ℕ) (c : Change) (rest : List ℕ) → change_at bytes ≡ Some (c, rest) → (length rest ≡ 0 → ⊥) → (d : Change) → ChangeBytes bytes d → ⊥
+never_more bytes c rest e more d h = more (ap (λ (y : Change × List ℕ). length y.1) (same_Some (c, rest) (d, []) (sym e ∙ change_read bytes d h)))
+
+-- a fault of reading is that of the bytes
+pub refused : (bytes : List ℕ) (e : DecodeFault) (rest : List ℕ) → Gives {A = Change} (Err e) (change_at bytes) rest → IsErrOf {T = Change} (Err e) NotAChange → (c : Change) → ChangeBytes bytes c → ⊥
+refused bytes NotAChange rest h is = never bytes h
+refused bytes Memory rest h is = absurd cc

@@ -1,5 +1,5 @@
 // Changes.
-ghost use Rattle.std.specs.Prelude.{◌≡◌, ◌++◌, ⊥, IfOk, IsErrOf, OnOk};
+ghost use Rattle.std.specs.Prelude.{◌≡◌, ◌++◌, IfOk, IsErrOf, OnOk};
 ghost use Rattle.arti_codec.specs.ChangeBytes.{edit_list, change, HasBytes, ChangeBytes};
 ghost use Rattle.arti_codec.specs.Reading.{Gives};
 ghost use Rattle.arti_codec.specs.ReadingRows.{edit_list_at, change_at};

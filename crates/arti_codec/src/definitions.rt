@@ -8,7 +8,7 @@ ghost use Rattle.arti_codec.specs.Reading.{Gives};
 ghost use Rattle.arti_codec.specs.ReadingRows.{class_at, text_or_none_at, definition_parts_at, definition_at};
 
 use crate::fault::DecodeFault;
-use crate::field::{Field, put_list16, take_some16};
+use crate::field::{Field, put_list16, put_u16, take_some16};
 use crate::reader::Reader;
 use arti_rows::{Class, RepoDef, Text};
 use std::alloc::{AllocError, Global};
@@ -40,14 +40,14 @@ impl Field for Class {
 }
 
 // Adds a text, or an empty one for none.
-#[tactic(auto, unfolding(crate::specs::ChangeBytes::text_or_none))]
+#[tactic(auto, unfolding(crate::specs::ChangeBytes::text_or_none, crate::specs::ChangeBytes::text))]
 fn put_or_empty(out: &mut Vec<u8>, text: &Option<Text>) -> Result<(), AllocError>
     requires { text_or_none.keeps text.now }
     ensures { OnOk result (out.new.items ≡ out.old.items ++ text_or_none.spell text.now) }
 {
     match text {
         Some(text) => text.put(out)?,
-        None => out.extend_from_slice(&[0, 0])?,
+        None => put_u16(out, 0)?,
     }
     Ok(())
 }
