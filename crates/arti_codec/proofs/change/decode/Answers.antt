@@ -29,4 +29,4 @@ pub returns-clause-only : goal.returns-clause-only
 returns-clause-only c = λ d.
     one_change c.args.bytes.now c.in_ok-change.change d
     (change_is c.args.bytes.now c.in_ok-change.change (λ i. omega (arith, c.type_inv.bytes i))
-      (whole c.args.bytes.now c.new-reader.result c.take_change.new.reader c.in_ok-change.change c.len.result c.new-reader.ensures c.in_ok-change.ensures c.len.ensures c.if-len-ne0.false))
+    (whole c.args.bytes.now c.new-reader.result c.take_change.new.reader c.in_ok-change.change c.len.result c.new-reader.ensures c.in_ok-change.ensures c.len.ensures c.if-len-ne0.false))
