@@ -81,7 +81,7 @@ pub fn put_all<T: Field>(out: &mut Vec<u8>, items: &[T]) -> Result<(), AllocErro
     Ok(())
 }
 
-// Reads so many. Room is made as they come, whatever their number says.
+// Reads so many. Room for sixteen at most is made before they come, whatever their number says.
 pub fn take_all<T: Field>(
     alloc: Global,
     reader: &mut Reader<'_>,
@@ -89,7 +89,7 @@ pub fn take_all<T: Field>(
 ) -> Result<Seq<T>, DecodeFault>
     ensures { Gives result (times_at T.read count reader.old) reader.new }
 {
-    let mut items = Seq::new(alloc);
+    let mut items = Seq::from_vec(Vec::with_capacity(alloc, count.min(16))?);
     for _ in 0..count {
         items.push(T::take(alloc, reader)?)?;
     }
