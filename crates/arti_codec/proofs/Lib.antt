@@ -1,0 +1,4 @@
+pub mod Loops
+pub mod FieldLaws
+pub mod RowLaws
+pub mod EditLaws

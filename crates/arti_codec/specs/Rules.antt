@@ -1,0 +1,66 @@
+-- The rules of property texts, of builds' names and of definitions, by their bytes (of this project).
+use Rattle.std.specs.Prelude.{ℕ, Bool, true, false, not, ◌&&◌, ◌||◌, ◌==◌, nat_le, nat_lt, nat_eq, List, [], ◌∷◌, length, codes}
+use Rattle.std.specs.List.{list_all, list_any, starts_with}
+use Rattle.std.specs.Ordering.{is_lt, nat_cmp, ordering_then}
+use Rattle.std.specs.declared.cmp.Ordering.{Ordering}
+use Rattle.std.specs.Cmp.Lexicographic.{slice_cmp}
+use Rattle.arti_rows.specs.Names.{is_repo_key}
+use Rattle.arti_rows.specs.declared.rows.Class.{Class}
+use Rattle.arti_rows.specs.declared.rows.Class.TheVariants.{Local, Remote, Virtual}
+use Rattle.arti_rows.specs.declared.rows.Property.{Property}
+use Rattle.arti_rows.specs.declared.rows.RepoDef.{RepoDef}
+
+-- U+0000 to U+001F and U+007F
+abbrev pub is_control : ℕ → Bool
+is_control b = nat_lt b 32 || b == 127
+
+-- a build's name or number: 1 to 255 bytes without control characters
+abbrev pub is_build_name : List ℕ → Bool
+is_build_name name = nat_lt 0 (length name) && nat_le (length name) 255 && not (list_any is_control name)
+
+-- space = ; , | * ? { } "
+abbrev pub key_marks : List ℕ
+key_marks = 32 ∷ 61 ∷ 59 ∷ 44 ∷ 124 ∷ 42 ∷ 63 ∷ 123 ∷ 125 ∷ 34 ∷ []
+
+abbrev pub is_barred_in_key : ℕ → Bool
+is_barred_in_key b = is_control b || list_any (λ c. c == b) key_marks
+
+-- a property's key: 1 to 255 bytes, without control characters and those marks
+abbrev pub is_prop_key : List ℕ → Bool
+is_prop_key key = nat_lt 0 (length key) && nat_le (length key) 255 && not (list_any is_barred_in_key key)
+
+-- a property's value: at most 2,048 bytes, without control characters
+abbrev pub is_prop_value : List ℕ → Bool
+is_prop_value value = nat_le (length value) 2048 && not (list_any is_control value)
+
+abbrev pub is_property : Property → Bool
+is_property p = is_prop_key p.key && is_prop_value p.value
+
+-- by key, then by value
+abbrev pub property_cmp : Property → Property → Ordering
+property_cmp a b = ordering_then (slice_cmp nat_cmp a.key b.key) (slice_cmp nat_cmp a.value b.value)
+
+abbrev pub text_cmp : List ℕ → List ℕ → Ordering
+text_cmp = slice_cmp nat_cmp
+
+-- each stands before the one behind it, so none stands twice
+abbrev pub comes_first : {A : Type 0} → (A → A → Ordering) → A → List A → Bool
+comes_first cmp x [] = true
+comes_first cmp x (y ∷ ys) = is_lt (cmp x y)
+
+abbrev pub ascends : {A : Type 0} → (A → A → Ordering) → List A → Bool
+ascends cmp [] = true
+ascends cmp (x ∷ xs) = comes_first cmp x xs && ascends cmp xs
+
+-- property keys, ascending and distinct
+abbrev pub are_prop_keys : List (List ℕ) → Bool
+are_prop_keys keys = list_all is_prop_key keys && ascends text_cmp keys
+
+-- A remote has room for the name of its cache, and a URL; a virtual repository alone has members, which are repositories' keys.
+abbrev pub fits_class : Class → List ℕ → List ℕ → List (List ℕ) → Bool
+fits_class Local key url members = length url == 0 && length members == 0
+fits_class Remote key url members = nat_le (length key) 58 && starts_with nat_eq url (codes "http://") && length members == 0
+fits_class Virtual key url members = length url == 0 && list_all is_repo_key members
+
+abbrev pub is_definition : RepoDef → Bool
+is_definition d = is_repo_key d.key && fits_class d.class d.key d.url d.members

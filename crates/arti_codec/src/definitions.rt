@@ -1,0 +1,178 @@
+// Definitions of repositories.
+ghost use Rattle.std.specs.Prelude.{◌≡◌, ◌++◌, OnOk, codes, nat_eq};
+ghost use Rattle.std.specs.List.{list_all, starts_with};
+ghost use Rattle.arti_rows.specs.Names.{is_repo_key, is_repo_byte, is_one_of, reserved_keys};
+ghost use Rattle.arti_codec.specs.Rules.{fits_class, is_definition};
+ghost use Rattle.arti_codec.specs.ChangeBytes.{class_byte, text_or_none, definition};
+ghost use Rattle.arti_codec.specs.Reading.{Gives};
+ghost use Rattle.arti_codec.specs.ReadingRows.{class_at, text_or_none_at, definition_parts_at, definition_at};
+
+use crate::fault::DecodeFault;
+use crate::field::{Field, put_list16, put_u16, take_some16};
+use crate::reader::Reader;
+use arti_rows::{Class, RepoDef, Text};
+use std::alloc::{AllocError, Global};
+
+impl Field for Class {
+    ghost format = { class_byte };
+
+    ghost read = { class_at };
+
+    #[tactic(auto, unfolding(crate::specs::ChangeBytes::class_byte))]
+    fn put(&self, out: &mut Vec<u8>) -> Result<(), AllocError> {
+        match self {
+            Class::Local => out.push(0)?,
+            Class::Remote => out.push(1)?,
+            Class::Virtual => out.push(2)?,
+        }
+        Ok(())
+    }
+
+    #[tactic(auto, unfolding(crate::specs::ReadingRows::class_at))]
+    fn take(_alloc: Global, reader: &mut Reader<'_>) -> Result<Class, DecodeFault> {
+        match reader.u8()? {
+            0 => Ok(Class::Local),
+            1 => Ok(Class::Remote),
+            2 => Ok(Class::Virtual),
+            _ => Err(DecodeFault::NotAChange),
+        }
+    }
+}
+
+// Adds a text, or an empty one for none.
+#[tactic(auto, unfolding(crate::specs::ChangeBytes::text_or_none, crate::specs::ChangeBytes::text))]
+fn put_or_empty(out: &mut Vec<u8>, text: &Option<Text>) -> Result<(), AllocError>
+    requires { text_or_none.keeps text.now }
+    ensures { OnOk result (out.new.items ≡ out.old.items ++ text_or_none.spell text.now) }
+{
+    match text {
+        Some(text) => text.put(out)?,
+        None => put_u16(out, 0)?,
+    }
+    Ok(())
+}
+
+// Reads a text, and takes an empty one for none.
+#[tactic(auto, unfolding(crate::specs::ReadingRows::text_or_none_at))]
+fn take_unless_empty(alloc: Global, reader: &mut Reader<'_>) -> Result<Option<Text>, DecodeFault>
+    ensures { Gives result (text_or_none_at reader.old) reader.new }
+{
+    let text = reader.text()?;
+    if text.is_empty() {
+        return Ok(None);
+    }
+    Ok(Some(Text::from_str(alloc, text)?))
+}
+
+// Whether a text may be a repository's key.
+fn is_repo_key(key: &str) -> bool
+    ensures { result ≡ is_repo_key key.now }
+{
+    if key.is_empty() || key.len() > 64 {
+        return false;
+    }
+    has_repo_bytes(key.as_bytes()) && !is_reserved(key)
+}
+
+fn has_repo_bytes(bytes: &[u8]) -> bool
+    ensures { result ≡ list_all is_repo_byte bytes.now }
+{
+    bytes.iter().all(|b| is_repo_byte(*b))
+}
+
+fn is_repo_byte(b: u8) -> bool
+    ensures { result ≡ is_repo_byte b }
+{
+    b.is_ascii_alphanumeric() || b == b'-' || b == b'_' || b == b'.'
+}
+
+fn is_reserved(key: &str) -> bool
+    ensures { result ≡ is_one_of reserved_keys key.now }
+{
+    key == "." || key == ".." || key == "api" || key == "artifactory"
+}
+
+fn are_repo_keys(keys: &[Text]) -> bool
+    ensures { result ≡ list_all is_repo_key keys.now }
+{
+    keys.iter().all(|key| is_repo_key(key.as_str()))
+}
+
+// Whether the class allows such a key, URL and members.
+fn fits_class(class: Class, key: &str, url: &str, members: &[Text]) -> bool
+    ensures { result ≡ fits_class class key.now url.now members.now }
+{
+    match class {
+        Class::Local => url.is_empty() && members.is_empty(),
+        Class::Remote => key.len() <= 58 && is_http(url) && members.is_empty(),
+        Class::Virtual => url.is_empty() && are_repo_keys(members),
+    }
+}
+
+fn is_http(url: &str) -> bool
+    ensures { result ≡ starts_with nat_eq url.now (codes "http://") }
+{
+    url.as_bytes().starts_with(b"http://")
+}
+
+fn is_definition(def: &RepoDef) -> bool
+    ensures { result ≡ is_definition def.now }
+{
+    is_repo_key(def.key.as_str())
+        && fits_class(
+            def.class,
+            def.key.as_str(),
+            def.url.as_str(),
+            def.members.as_slice(),
+        )
+}
+
+// Reads a definition, whatever its rules.
+#[tactic(auto, unfolding(crate::specs::ReadingRows::definition_parts_at))]
+fn take_parts(alloc: Global, reader: &mut Reader<'_>) -> Result<RepoDef, DecodeFault>
+    ensures { Gives result (definition_parts_at reader.old) reader.new }
+{
+    let key = Text::take(alloc, reader)?;
+    let class = Class::take(alloc, reader)?;
+    let url = Text::take(alloc, reader)?;
+    let members = take_some16::<Text>(alloc, reader, 256)?;
+    let default_to = take_unless_empty(alloc, reader)?;
+    let includes = Text::take(alloc, reader)?;
+    let excludes = Text::take(alloc, reader)?;
+    Ok(RepoDef {
+        key,
+        class,
+        url,
+        members,
+        default_to,
+        includes,
+        excludes,
+    })
+}
+
+impl Field for RepoDef {
+    ghost format = { definition };
+
+    ghost read = { definition_at };
+
+    #[tactic(auto, unfolding(crate::specs::ChangeBytes::definition))]
+    fn put(&self, out: &mut Vec<u8>) -> Result<(), AllocError> {
+        self.key.put(out)?;
+        self.class.put(out)?;
+        self.url.put(out)?;
+        put_list16(out, self.members.as_slice())?;
+        put_or_empty(out, &self.default_to)?;
+        self.includes.put(out)?;
+        self.excludes.put(out)?;
+        Ok(())
+    }
+
+    #[tactic(auto, unfolding(crate::specs::ReadingRows::definition_at))]
+    fn take(alloc: Global, reader: &mut Reader<'_>) -> Result<RepoDef, DecodeFault> {
+        let def = take_parts(alloc, reader)?;
+        if !is_definition(&def) {
+            return Err(DecodeFault::NotAChange);
+        }
+        Ok(def)
+    }
+}
