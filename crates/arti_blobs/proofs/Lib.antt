@@ -1,3 +1,4 @@
 mod Chaining
 mod Searching
 mod Fronts
+mod Blocks

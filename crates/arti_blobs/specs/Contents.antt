@@ -26,6 +26,12 @@ abbrev pub Keeps : List FileRef → List FileRef → List FileRef → Type 0
 Keeps kept [] all = all ≡ kept
 Keeps kept (file ∷ files) all = (Contains kept file × Keeps kept files all) ⊎ (¬ Contains kept file × (file.place ≡ end_of kept) × Keeps (kept ++ file ∷ []) files all)
 
+-- a content has the length, the digests and the bytes of one
+pub record IsSame (bytes : List ℕ) (wanted file : FileRef) : Type 0 where
+  pub same_length : file.len ≡ wanted.len
+  pub same_digests : file.digests ≡ wanted.digests
+  pub same_bytes : content bytes file ≡ content bytes wanted
+
 -- a kept content has these bytes and these digests
 pub record HasPair (bytes : List ℕ) (kept : List FileRef) (wanted : List ℕ) (digests : Digests) : Type 0 where
   pub file : FileRef

@@ -1,8 +1,8 @@
 // Contents are compared by their bytes, in blocks.
-ghost use Rattle.std.specs.Prelude.{◌≡◌, ◌≢◌, ◌↔◌, ◌+◌, ◌^◌, ◌<◌, ◌≤◌, length, take, drop, Contains, None, IsTrue, IfOk, IfSome};
+ghost use Rattle.std.specs.Prelude.{◌≡◌, ◌↔◌, ◌+◌, ◌^◌, ◌<◌, ◌≤◌, length, take, drop, Contains, None, IsTrue, IfOk, IfSome};
 ghost use Rattle.arti_rows.specs.declared.rows.FileRef.{FileRef};
 ghost use Rattle.arti_ground.specs.State.{State, OnlyReads, HasCause};
-ghost use Rattle.arti_blobs.specs.Contents.{content, end_of};
+ghost use Rattle.arti_blobs.specs.Contents.{IsSame};
 
 use crate::index::Index;
 use arti_ground::{Failed, Ground};
@@ -81,10 +81,11 @@ pub(crate) fn find_same<G: Ground>(
     requires kept { (file : FileRef) → Contains index.now file → file.place + file.len < 2 ^ 63 }
     requires reach { G.tells → wanted.now.place + wanted.now.len ≤ length ((G.state outside.old).files 3) }
     requires holds { G.tells → (file : FileRef) → Contains index.now file → file.place + file.len ≤ length ((G.state outside.old).files 3) }
-    ensures found { IfOk result (λ r. IfSome r (λ file. Contains index.now file × (file.len ≡ wanted.now.len) × (file.digests ≡ wanted.now.digests))) }
-    ensures same { G.tells → IfOk result (λ r. IfSome r (λ file. content ((G.state outside.old).files 3) file ≡ content ((G.state outside.old).files 3) wanted.now)) }
-    ensures none { G.tells → IfOk result (λ r. r ≡ None → (file : FileRef) → Contains index.now file → file.len ≡ wanted.now.len → file.digests ≡ wanted.now.digests
-        → content ((G.state outside.old).files 3) file ≢ content ((G.state outside.old).files 3) wanted.now) }
+    ensures kept { IfOk result (λ r. IfSome r (λ file. Contains index.now file)) }
+    ensures length { IfOk result (λ r. IfSome r (λ file. file.len ≡ wanted.now.len)) }
+    ensures digests { IfOk result (λ r. IfSome r (λ file. file.digests ≡ wanted.now.digests)) }
+    ensures same { G.tells → IfOk result (λ r. IfSome r (λ file. IsSame ((G.state outside.old).files 3) wanted.now file)) }
+    ensures none { G.tells → IfOk result (λ r. r ≡ None → (file : FileRef) → Contains index.now file → IsSame ((G.state outside.old).files 3) wanted.now file → ⊥) }
     ensures reads { G.tells → OnlyReads (G.state outside.old) (G.state outside.new) }
     ensures cause { HasCause (G.disk_faults outside.old) (G.disk_faults outside.new) result }
     ensures tell_faults { G.tell_faults outside.new ≡ G.tell_faults outside.old }
@@ -114,8 +115,9 @@ fn is_same<G: Ground>(
     requires second_fits { wanted.now.place + wanted.now.len < 2 ^ 63 }
     requires first { G.tells → file.now.place + file.now.len ≤ length ((G.state outside.old).files 3) }
     requires second { G.tells → wanted.now.place + wanted.now.len ≤ length ((G.state outside.old).files 3) }
-    ensures alike { IfOk result (λ b. IsTrue b → (file.now.len ≡ wanted.now.len) × (file.now.digests ≡ wanted.now.digests)) }
-    ensures same { G.tells → IfOk result (λ b. IsTrue b ↔ ((file.now.len ≡ wanted.now.len) × (file.now.digests ≡ wanted.now.digests) × (content ((G.state outside.old).files 3) file.now ≡ content ((G.state outside.old).files 3) wanted.now))) }
+    ensures length { IfOk result (λ b. IsTrue b → file.now.len ≡ wanted.now.len) }
+    ensures digests { IfOk result (λ b. IsTrue b → file.now.digests ≡ wanted.now.digests) }
+    ensures same { G.tells → IfOk result (λ b. IsTrue b ↔ IsSame ((G.state outside.old).files 3) wanted.now file.now) }
     ensures reads { G.tells → OnlyReads (G.state outside.old) (G.state outside.new) }
     ensures cause { HasCause (G.disk_faults outside.old) (G.disk_faults outside.new) result }
     ensures tell_faults { G.tell_faults outside.new ≡ G.tell_faults outside.old }
