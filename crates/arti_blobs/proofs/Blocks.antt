@@ -1,8 +1,11 @@
 -- Bytes that are compared block by block.
-use Rattle.std.proofs.Common.{◌≡◌, ℕ, ◌+◌, ◌-◌, ◌≤◌, ◌<◌, Bool, List, ◌++◌, length, take, drop, refl, sym, ◌∙◌, ap, subst, arith}
-use Rattle.std.proofs.lemmas.List.{drop-drop, drop-take, take-take, take_all}
+use Rattle.std.proofs.Common.{◌≡◌, ℕ, ◌+◌, ◌-◌, ◌≤◌, ◌<◌, Bool, List, ◌++◌, length, length-drop, take, drop, refl, sym, ◌∙◌, ap, subst, arith}
+use Rattle.std.proofs.lemmas.List.{drop-drop, drop-take, take-take, take_all, take_at, length-take-le}
+use Rattle.std.specs.Prelude.{min}
 use Rattle.std.specs.Bool.{Decides}
 use Rattle.arti_ground.specs.State.{Bytes, Reads}
+use Rattle.arti_rows.specs.declared.rows.FileRef.{FileRef}
+use Rattle.arti_blobs.specs.Contents.{content}
 use Rattle.arti_blobs.proofs.Fronts.{take_both}
 
 module _ (bytes : List ℕ) where
@@ -40,3 +43,18 @@ pub block_of : (a b : Bytes) (k n first second : ℕ) (r : Bool) → a ≡ b →
 block_of a b k n first second r same long decides =
     subst (λ (c : Bytes). Decides r (take n (drop first (c 3)) ≡ take n (drop second (c 3)))) same
     (subst (λ (m : ℕ). Decides r (take m (drop first (a 3)) ≡ take m (drop second (a 3)))) long decides)
+
+pub content_length : (bytes : List ℕ) (file : FileRef) → file.place + file.len ≤ length bytes → length (content bytes file) ≡ file.len
+content_length bytes file within = length-take-le file.len (drop file.place bytes) (omega (arith, within, length-drop file.place bytes))
+
+-- a part of a content that was read into the front of a buffer
+pub read_content : (bytes : List ℕ) (file : FileRef) (buf new : List ℕ) (at n m : ℕ) → Reads bytes (file.place + at) (take n buf) new m → n ≡ min (file.len - at) (length buf) → length new ≡ length (take n buf)
+    → file.place + file.len ≤ length bytes → at ≤ file.len → Reads (content bytes file) at buf (new ++ drop n buf) m
+read_content bytes file buf new at n m read is long within le =
+    let room : length (take n buf) ≡ n = length-take-le n buf (omega (arith, is)) in
+    let all : m ≡ n = omega (arith, read.count, room, is, within, le) in
+    record {
+      count = omega (arith, all, is, content_length bytes file within);
+      front = take_at new (drop n buf) m (omega (arith, all, long, room)) ∙ sym (take_all m new (omega (arith, all, long, room))) ∙ read.front
+          ∙ sym (block bytes file.place at m file.len (omega (arith, all, is, le)));
+    }

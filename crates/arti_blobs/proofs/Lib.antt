@@ -2,3 +2,5 @@ mod Chaining
 mod Searching
 mod Fronts
 mod Blocks
+mod Kept
+mod Pairs

@@ -132,7 +132,13 @@ impl Blobs {
         let staging = self.staging.take().unwrap();
         let file = staging.finish(self.end);
         let kept = find_same(outside, &self.index, &file, &mut self.one, &mut self.other)?;
-        Ok(staged_as(file, kept))
+        match kept {
+            Some(kept) => Ok(Staged {
+                file: kept,
+                fresh: false,
+            }),
+            None => Ok(Staged { file, fresh: true }),
+        }
     }
 
     /// Keeps what was staged, unless the kept contents would pass the limit. A content that isn't fresh is kept already.
@@ -208,15 +214,4 @@ fn index_of(alloc: Global, kept: &[FileRef]) -> Result<(Index, u64), AllocError>
         }
     }
     Ok((index, end))
-}
-
-// The kept content where there is one, and else the staged one.
-fn staged_as(file: FileRef, kept: Option<FileRef>) -> Staged {
-    match kept {
-        Some(kept) => Staged {
-            file: kept,
-            fresh: false,
-        },
-        None => Staged { file, fresh: true },
-    }
 }
