@@ -59,7 +59,7 @@ module _ (kept : List FileRef) (file : FileRef) where
   now_last = record { found = (omega arith, new); none_later = λ j lt e. lt }
 
   module _ (older : List (Option ℕ)) (newest newer : BTreeMap (List ℕ) ℕ) (before : Option ℕ) (chained : Chained kept older newest) (was : before ≡ tree.get (slice_cmp nat_cmp) newest file.digests.sha256)
-    (updates : tree.Updates (slice_cmp nat_cmp) newest newer file.digests.sha256 (Some (length kept))) where
+      (updates : tree.Updates (slice_cmp nat_cmp) newest newer file.digests.sha256 (Some (length kept))) where
     pick : (sha256 : List ℕ) (b : Bool) → Decides b (file.digests.sha256 ≡ sha256) → IsLast (kept ++ file ∷ []) sha256 (length kept + 1) (cond b (Some (length kept)) (tree.get (slice_cmp nat_cmp) newest sha256))
     pick sha256 true is = subst (λ (s : List ℕ). IsLast (kept ++ file ∷ []) s (length kept + 1) (Some (length kept))) (is.0 refl) now_last
     pick sha256 false is = goes_on sha256 _ (λ e. false≢true (is.1 e)) (stays sha256 (length kept) _ (omega arith) (chained.last sha256))

@@ -66,5 +66,5 @@ pub read_none : (files : List FileRef) → IsIndexed files 0 [] 0
 read_none files = record { end_is = refl; within = All-nil (λ (file : FileRef). file.place + file.len ≤ 0); rule = λ all keeps. keeps }
 
 -- all were read
-pub read_all : (files index all : List FileRef) (end : ℕ) → IsIndexed files (length files) index end → Keeps [] files all → all ≡ index
-read_all files index all end indexed keeps = subst (λ (l : List FileRef). Keeps index l all) (drop_all (length files) files (omega arith)) (indexed.rule all keeps)
+pub read_all : (files index all : List FileRef) (i end : ℕ) → length files ≤ i → IsIndexed files i index end → Keeps [] files all → all ≡ index
+read_all files index all i end le indexed keeps = subst (λ (l : List FileRef). Keeps index l all) (drop_all i files le) (indexed.rule all keeps)

@@ -1,5 +1,5 @@
 // Contents, each kept once.
-ghost use Rattle.std.specs.Prelude.{◌≡◌, ◌≢◌, ◌↔◌, ◌+◌, ◌^◌, ◌<◌, ◌≤◌, ℕ, Bool, true, false, List, [], ◌++◌, length, All, Contains, Err, None, IsTrue, IsSome, IfOk, OnOk, OnErr, IfErr, IsErrOf};
+ghost use Rattle.std.specs.Prelude.{◌≡◌, ◌≢◌, ◌↔◌, ◌+◌, ◌^◌, ◌<◌, ◌≤◌, ℕ, Bool, true, false, List, [], ◌++◌, length, take, All, Contains, Err, None, IsTrue, IsSome, IfOk, OnOk, OnErr, IfErr, IsErrOf};
 ghost use Rattle.arti_rows.specs.declared.rows.FileRef.{FileRef};
 ghost use Rattle.arti_ground.specs.State.{State, Reads, Follows, Passes, OnlyReads, HasCause, Rose};
 ghost use Rattle.arti_blobs.specs.Digests.{digests_of};
@@ -34,11 +34,11 @@ impl Model for Blobs {
     ghost view = { λ b. record { kept = b.index; staging = b.staging } };
 
     ghost invariant = { λ b. record {
-        end_is : b.end ≡ end_of b.index;
-        short : b.end + staged_length b.staging < 2 ^ 63;
-        within : All (λ file. file.place + file.len ≤ b.end) b.index;
-        some : 1 ≤ length b.one.items;
-        long : length b.other.items ≡ length b.one.items;
+      end_is : b.end ≡ end_of b.index;
+      short : b.end + staged_length b.staging < 2 ^ 63;
+      within : All (λ file. file.place + file.len ≤ b.end) b.index;
+      some : 1 ≤ length b.one.items;
+      long : length b.other.items ≡ length b.one.items;
     } };
 }
 
@@ -48,6 +48,7 @@ impl Blobs {
     pub fn open(alloc: Global, kept: Vec<FileRef>) -> Result<Blobs, AllocError>
         requires { (all : List FileRef) × Keeps [] kept.items all × (end_of all ≤ 2 ^ 62) }
         ensures kept { IfOk result (λ b. Keeps [] kept.items b.kept) }
+        ensures only { IfOk result (λ b. (all : List FileRef) → Keeps [] kept.items all → all ≡ b.kept) }
         ensures staging { IfOk result (λ b. b.staging ≡ None) }
     {
         let (index, end) = index_of(alloc, &kept)?;
@@ -65,6 +66,8 @@ impl Blobs {
     /// Begins a staging with no bytes. One that isn't ended is given up.
     pub fn stage_begin(&mut self)
         ensures kept { self.new.kept ≡ self.old.kept }
+        ensures begun { IsSome self.new.staging }
+        ensures length { staged_length self.new.staging ≡ 0 }
         ensures staged { Stages self.new [] }
     {
         self.staging = Some(Staging::new());
@@ -82,6 +85,8 @@ impl Blobs {
         requires room { end_of self.old.kept + max < 2 ^ 63 }
         requires holds { G.tells → HoldsContents (G.state outside.old) self.old }
         ensures kept { self.new.kept ≡ self.old.kept }
+        ensures begun { OnOk result (IsSome self.new.staging) }
+        ensures length { OnOk result (staged_length self.new.staging ≡ staged_length self.old.staging + length piece.now) }
         ensures staged { OnOk result ((bytes : List ℕ) → Stages self.old bytes → Stages self.new (bytes ++ piece.now)) }
         ensures written { G.tells → OnOk result ((bytes : List ℕ) → HoldsStaged (G.state outside.old) self.old bytes
             → HoldsStaged (G.state outside.new) self.new (bytes ++ piece.now)) }
@@ -123,7 +128,8 @@ impl Blobs {
         ensures kept { IfOk result (λ s. s.fresh ≡ false → Contains self.old.kept s.file) }
         ensures place { IfOk result (λ s. IsTrue s.fresh → s.file.place ≡ end_of self.old.kept) }
         ensures short { IfOk result (λ s. end_of (kept_with self.old.kept s) < 2 ^ 63) }
-        ensures holds { G.tells → IfOk result (λ s. HoldsContents (G.state outside.new) (record { kept = kept_with self.old.kept s; staging = None })) }
+        ensures holds { G.tells → HoldsContents (G.state outside.new) self.new }
+        ensures next { G.tells → IfOk result (λ s. HoldsContents (G.state outside.new) (record { kept = kept_with self.old.kept s; staging = None })) }
         ensures reads { G.tells → OnlyReads (G.state outside.old) (G.state outside.new) }
         ensures device { OnErr result (result ≡ Err StageFault.Device) }
         ensures cause { HasCause (G.disk_faults outside.old) (G.disk_faults outside.new) result }
@@ -183,6 +189,7 @@ impl Blobs {
         ensures within { IfOk result (λ n. n ≤ length buf.old) }
         ensures bytes { G.tells → IfOk result (Reads (content ((G.state outside.old).files 3) file.now) at buf.old buf.new) }
         ensures unchanged { self.new ≡ self.old }
+        ensures holds { G.tells → HoldsContents (G.state outside.new) self.new }
         ensures reads { G.tells → OnlyReads (G.state outside.old) (G.state outside.new) }
         ensures device { OnErr result (result ≡ Err StageFault.Device) }
         ensures cause { HasCause (G.disk_faults outside.old) (G.disk_faults outside.new) result }
@@ -201,6 +208,7 @@ impl Blobs {
 fn index_of(alloc: Global, kept: &[FileRef]) -> Result<(Index, u64), AllocError>
     requires { (all : List FileRef) × Keeps [] kept.now all × (end_of all ≤ 2 ^ 62) }
     ensures kept { IfOk result (λ r. Keeps [] kept.now r.0) }
+    ensures only { IfOk result (λ r. (all : List FileRef) → Keeps [] kept.now all → all ≡ r.0) }
     ensures end { IfOk result (λ r. r.1 ≡ end_of r.0) }
     ensures short { IfOk result (λ r. r.1 ≤ 2 ^ 62) }
     ensures within { IfOk result (λ r. All (λ file. file.place + file.len ≤ r.1) r.0) }
@@ -215,3 +223,9 @@ fn index_of(alloc: Global, kept: &[FileRef]) -> Result<(Index, u64), AllocError>
     }
     Ok((index, end))
 }
+
+/// A content that ends in the first bytes of a file is the same in each file with the same first bytes. So what was kept reads
+/// the same after each call that leaves the file as it is up to the end of the kept contents.
+pub fn contents_stay()
+    ensures { (file : FileRef) (end : ℕ) (bytes others : List ℕ) → file.place + file.len ≤ end → take end others ≡ take end bytes → content others file ≡ content bytes file }
+{}

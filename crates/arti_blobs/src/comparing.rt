@@ -59,7 +59,13 @@ pub(crate) fn same_bytes<G: Ground>(
     let mut done = 0;
     'blocks: while done < len {
         let n = (len - done).min(one.len() as u64) as usize;
-        if !same_block(outside, first + done, second + done, &mut one[..n], &mut other[..n])? {
+        if !same_block(
+            outside,
+            first + done,
+            second + done,
+            &mut one[..n],
+            &mut other[..n],
+        )? {
             return Ok(false);
         }
         done += n as u64;

@@ -7,7 +7,7 @@ mod fault;
 mod index;
 mod staging;
 
-pub use blobs::Blobs;
+pub use blobs::{Blobs, contents_stay};
 pub use fault::{KeepFault, StageFault};
 pub use staging::{Staged, digests_of};
 

@@ -13,9 +13,9 @@ returns-then-not-branch-clause-same g c = λ tells.
     let done = c.blocks-2.done in
     let size : length (take n c.blocks-2.one) ≡ n = length-take-le n c.blocks-2.one (omega arith) in
     let decides = block_of (g.G.Ground.state c.blocks-2.outside).files (g.G.Ground.state c.args.outside.now).files (length (take n c.blocks-2.one)) n (c.args.first + done) (c.args.second + done) c.in_ok-same_block.field-0
-        (c.blocks-2.invariant.reads tells).disk.files size (c.in_ok-same_block.ensures.same tells) in
+    (c.blocks-2.invariant.reads tells).disk.files size (c.in_ok-same_block.ensures.same tells) in
     let within : done + n ≤ c.args.len = omega arith in
-    (λ t. absurd (false≢true t), λ same. sym c.if-not-branch.true ∙ decides.1 (same_blocks bytes c.args.first c.args.second done n c.args.len within same))
+    (λ t. absurd {A = take c.args.len (drop c.args.first bytes) ≡ take c.args.len (drop c.args.second bytes)} (false≢true t), λ same. sym c.if-not-branch.true ∙ decides.1 (same_blocks bytes c.args.first c.args.second done n c.args.len within same))
 
 pub blocks-2-preserved : goal.blocks-2-preserved
 blocks-2-preserved g c =
@@ -30,6 +30,6 @@ blocks-2-preserved g c =
       tell_faults = c.same_block.ensures.tell_faults ∙ c.blocks-2.invariant.tell_faults;
       same = λ tells.
           let decides = block_of (g.G.Ground.state c.blocks-2.outside).files (g.G.Ground.state c.args.outside.now).files (length (take n c.blocks-2.one)) n (c.args.first + done) (c.args.second + done) c.in_ok-same_block.field-0
-              (c.blocks-2.invariant.reads tells).disk.files size (c.in_ok-same_block.ensures.same tells) in
+          (c.blocks-2.invariant.reads tells).disk.files size (c.in_ok-same_block.ensures.same tells) in
           same_more bytes c.args.first c.args.second done n (c.blocks-2.invariant.same tells) (decides.0 c.if-not-branch.false);
     }

@@ -36,7 +36,7 @@ returns-clause-written g c = λ tells bytes held.
     let begun : c.args.self.now.staging ≡ Some c.unwrap-staging.result = sym (ap (λ (b : Contents). b.staging) c.self.view_is) ∙ sym c.take.ensures.value ∙ c.unwrap-staging.ensures in
     let has : Has c.unwrap-staging.result bytes = subst (λ (o : Option Staging). IsSomeAnd o (λ s. Has s bytes)) begun held.staged in
     let within : end_of c.args.self.now.kept + c.unwrap-staging.result.len ≤ length ((g.G.Ground.state c.args.outside.now).files 3) =
-        subst (λ (o : Option Staging). end_of c.args.self.now.kept + staged_length o ≤ length ((g.G.Ground.state c.args.outside.now).files 3)) begun (c.requires.holds tells) in
+    subst (λ (o : Option Staging). end_of c.args.self.now.kept + staged_length o ≤ length ((g.G.Ground.state c.args.outside.now).files 3)) begun (c.requires.holds tells) in
     let kept : end_of c.self.inside.index ≡ end_of c.args.self.now.kept = ap (λ (b : Contents). end_of b.kept) c.self.view_is in
     record {
       staged = c.take-2.ensures.bytes bytes has;

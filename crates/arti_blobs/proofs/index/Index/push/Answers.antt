@@ -21,7 +21,7 @@ invariant_of-self-2 c =
     let more_older : c.push-2.new.self.items ≡ older ++ before ∷ [] = c.in_ok-push-2.ensures.items ∙ ap (λ (l : List (Option ℕ)). l ++ before ∷ []) c.reserve-2.ensures.items in
     let count : c.len.result ≡ length kept = search rules in
     let updates : tree.Updates (slice_cmp nat_cmp) c.self.inside.newest c.insert.new.self c.args.file.digests.sha256 (Some (length kept)) =
-        subst (λ (n : ℕ). tree.Updates (slice_cmp nat_cmp) c.self.inside.newest c.insert.new.self c.args.file.digests.sha256 (Some n)) count c.in_ok-before.ensures.updates in
+    subst (λ (n : ℕ). tree.Updates (slice_cmp nat_cmp) c.self.inside.newest c.insert.new.self c.args.file.digests.sha256 (Some n)) count c.in_ok-before.ensures.updates in
     subst (λ (l : List FileRef). Chained l c.push-2.new.self.items c.insert.new.self) (sym more)
     (subst (λ (l : List (Option ℕ)). Chained (kept ++ c.args.file ∷ []) l c.insert.new.self) (sym more_older)
     (chained_more kept c.args.file older c.self.inside.newest c.insert.new.self before c.self.invariant c.in_ok-before.ensures.old updates))
