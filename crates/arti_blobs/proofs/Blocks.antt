@@ -1,5 +1,5 @@
 -- Bytes that are compared block by block.
-use Rattle.std.proofs.Common.{◌≡◌, ℕ, ◌+◌, ◌-◌, ◌≤◌, ◌<◌, Bool, List, ◌++◌, length, length-drop, take, drop, refl, sym, ◌∙◌, ap, subst, arith}
+use Rattle.std.proofs.Common.{◌≡◌, ℕ, ◌+◌, ◌-◌, ◌≤◌, Bool, List, ◌++◌, length, length-drop, take, drop, sym, ◌∙◌, ap, subst, arith}
 use Rattle.std.proofs.lemmas.List.{drop-drop, drop-take, take-take, take_all, take_at, length-take-le}
 use Rattle.std.specs.Prelude.{min}
 use Rattle.std.specs.Bool.{Decides}

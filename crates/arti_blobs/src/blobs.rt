@@ -1,5 +1,5 @@
 // Contents, each kept once.
-ghost use Rattle.std.specs.Prelude.{◌≡◌, ◌≢◌, ◌↔◌, ◌+◌, ◌^◌, ◌<◌, ◌≤◌, ℕ, Bool, true, false, List, [], ◌++◌, length, take, All, Contains, Err, None, IsTrue, IsSome, IfOk, OnOk, OnErr, IfErr, IsErrOf};
+ghost use Rattle.std.specs.Prelude.{◌≡◌, ◌≢◌, ◌↔◌, ◌+◌, ◌^◌, ◌<◌, ◌≤◌, ℕ, false, List, [], ◌++◌, length, take, All, Contains, Err, None, IsTrue, IsSome, IfOk, OnOk, OnErr, IsErrOf};
 ghost use Rattle.arti_rows.specs.declared.rows.FileRef.{FileRef};
 ghost use Rattle.arti_ground.specs.State.{State, Reads, Follows, Passes, OnlyReads, HasCause, Rose};
 ghost use Rattle.arti_blobs.specs.Digests.{digests_of};

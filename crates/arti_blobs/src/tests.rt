@@ -1,7 +1,7 @@
 // Contents over grounds in memory.
 ghost use Rattle.std.specs.Prelude.{◌≡◌, ◌+◌, ◌≤◌, ◌<◌, ◌^◌, Contains, None, false, IsTrue, IfOk, OnOk};
 ghost use Rattle.arti_ground.specs.State.{State};
-ghost use Rattle.arti_blobs.specs.Contents.{Contents, end_of, kept_with, staged_length, HoldsContents};
+ghost use Rattle.arti_blobs.specs.Contents.{end_of, kept_with, staged_length, HoldsContents};
 
 use super::*;
 use arti_ground::{FaultyGround, Ground, MemoryGround};

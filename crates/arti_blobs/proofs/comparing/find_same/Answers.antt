@@ -1,4 +1,4 @@
-use Rattle.std.proofs.Common.{◌+◌, ◌≤◌, length, Option, Some, sym, subst}
+use Rattle.std.proofs.Common.{◌+◌, ◌≤◌, length, Some, sym, subst}
 use Rattle.std.specs.Prelude.{Contains}
 use Rattle.std.proofs.lemmas.List.Elements.{Contains-get_or}
 use Rattle.arti_ground.specs.State.{Bytes}

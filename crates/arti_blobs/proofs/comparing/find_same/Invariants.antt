@@ -1,5 +1,4 @@
-use Rattle.std.proofs.Common.{◌≡◌, ◌<◌}
-use Rattle.arti_rows.specs.declared.rows.FileRef.{FileRef}
+use Rattle.std.proofs.Common.{◌≡◌}
 use Rattle.arti_ground.specs.State.{OnlyReads}
 use Rattle.arti_blobs.specs.Chains.{past}
 use Rattle.arti_blobs.specs.Contents.{IsSame}
