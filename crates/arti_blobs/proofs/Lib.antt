@@ -1,0 +1,6 @@
+mod Chaining
+mod Searching
+mod Fronts
+mod Blocks
+mod Kept
+mod Pairs
