@@ -6,6 +6,7 @@ ghost use Rattle.arti_aql_parse.specs.View.{view};
 
 use super::*;
 use arti_aql_lex::LexFault;
+use arti_rows::{Seq, Text};
 use std::alloc::Global;
 use std::test::Fail;
 
@@ -428,5 +429,41 @@ fn printed_forms(rt: HostRuntime) -> Result<(), Fail> {
         let same = print(rt.alloc(), &again)?;
         assert_eq!(rt; same.as_str(), *want, "of {want:?}");
     }
+    Ok(())
+}
+
+// What is nested deeper than in any text is left out, so the text that is printed is no query.
+#[test]
+fn prints_no_deeper(rt: HostRuntime) -> Result<(), Fail> {
+    let alloc = rt.alloc();
+    let mut object = Object {
+        members: Vec::new(alloc),
+    };
+    for _ in 0..100 {
+        let mut objects = Vec::new(alloc);
+        objects.push(object)?;
+        let mut members = Vec::new(alloc);
+        members.push(Member::All(objects))?;
+        object = Object { members };
+    }
+    let mut find = Vec::new(alloc);
+    find.push(object)?;
+    let query = Query {
+        domain: Text::from_str(alloc, "items")?,
+        find: Seq::from_vec(find),
+        include: None,
+        sort: None,
+        offset: None,
+        limit: None,
+        distinct: None,
+    };
+    let printed = print(alloc, &query)?;
+    let want =
+        "items.find({\"$and\":[{\"$and\":[{\"$and\":[{\"$and\":[{\"$and\":[{\"$and\":[{\"$and\":[{\"$and\":[{\"$and\":[{\"$and\":[{\"$and\":[{\"$and\":[{\"$and\":[{\"$and\":[{\"$and\":[{\"$and\":[]}]}]}]}]}]}]}]}]}]}]}]}]}]}]}]})";
+    assert_eq!(rt; printed.as_str(), want);
+    assert_eq!(rt;
+        parse(alloc, want).err(),
+        Some(ParseFault::Expected(155, What::Object))
+    );
     Ok(())
 }
