@@ -1,8 +1,8 @@
 #!/bin/bash
-# Times contents over a ground in memory: 16 MiB staged in pieces of 64 KiB, the same staged again, which compares it with the
-# kept one, and the time that sha256sum, sha1sum and md5sum together take for as many bytes; then so many small contents, each
-# kept, where each line doubles their number, so that a quadratic step would show as a factor of four. It works in a copy, and
-# leaves nothing in the repository.
+# Times contents over a real folder: 256 MiB staged in pieces of 64 KiB, the same staged again, which compares it with the
+# kept one, and the time that sha256sum, sha1sum and md5sum together take for the same file; then, over a ground in memory, so
+# many small contents, each kept, where each line doubles their number, so that a quadratic step would show as a factor of
+# four. It works in a copy, and leaves nothing in the repository.
 #
 #     bench/blobs/run.sh
 set -e
@@ -17,8 +17,10 @@ done
 grep -E '^(arti_rows|arti_ground|arti_blobs):' "$top/crates.txt" > "$copy/crates.txt"
 echo 'arti_blobs_times: arti_blobs arti_ground' >> "$copy/crates.txt"
 times="$copy/crates/arti_blobs_times"
-mkdir -p "$times/src" "$times/proofs/add" "$times/proofs/add_numbers"
+mkdir -p "$times/src" "$times/proofs/add" "$times/proofs/add_repeated" "$times/proofs/add_numbers" "$times/proofs/real_file/read_from"
 touch "$times/proofs/Lib.antt"
+cp "$top/crates/arti_main/src/real_file.rt" "$top/crates/arti_main/src/real_ground.rt" "$times/src"
+sed 's/arti_main/arti_blobs_times/' "$top/crates/arti_main/proofs/real_file/read_from/Invariants.antt" > "$times/proofs/real_file/read_from/Invariants.antt"
 cat > "$times/src/main.rt" <<'PROGRAM'
 //! Times the staging of contents.
 #![tactic(auto)]
@@ -27,6 +29,10 @@ ghost use Rattle.std.specs.Prelude.{◌≡◌, ◌+◌, None, IfOk};
 ghost use Rattle.arti_ground.specs.State.{State};
 ghost use Rattle.arti_blobs.specs.Contents.{end_of, staged_length, HoldsContents};
 
+mod real_file;
+mod real_ground;
+
+use crate::real_ground::RealGround;
 use arti_blobs::Blobs;
 use arti_ground::{Ground, MemoryGround};
 use std::alloc::{AllocError, Global};
@@ -57,6 +63,22 @@ fn add<G: Ground>(blobs: &mut Blobs, outside: &mut G, content: &[u8]) -> Option<
     Some(staged.fresh)
 }
 
+// Stages a content of so many times the same piece, and keeps it. Whether it was fresh, or None after a fault.
+fn add_repeated<G: Ground>(blobs: &mut Blobs, outside: &mut G, piece: &[u8], count: u32) -> Option<bool>
+    requires { G.tells → HoldsContents (G.state outside.old) blobs.old }
+{
+    if blobs.kept_length() > 1 << 40 {
+        return None;
+    }
+    blobs.stage_begin();
+    'pieces: for _ in 0..count {
+        blobs.stage_piece(outside, piece, 1 << 40).ok()?;
+    }
+    let staged = blobs.stage_end(outside).ok()?;
+    blobs.keep(&staged, 1 << 40).ok()?;
+    Some(staged.fresh)
+}
+
 // The numbers below n, each a content of eight bytes. How many were fresh.
 fn add_numbers<G: Ground>(blobs: &mut Blobs, outside: &mut G, n: u32) -> u32
     requires { G.tells → HoldsContents (G.state outside.old) blobs.old }
@@ -76,16 +98,16 @@ fn micros(rt: &HostRuntime, start: Instant) -> io::Result<u128> {
 
 fn large(rt: &HostRuntime) -> io::Result<()> {
     let alloc = rt.alloc();
-    let content = vec![in alloc; 7u8; 16_777_216]?;
-    let mut memory = MemoryGround::new(alloc, 10_000, 40_000_000)?;
+    let piece = vec![in alloc; 7u8; 65_536]?;
+    let mut outside = RealGround::new(rt, alloc, ".", rt.stdout())?;
     let mut blobs = no_contents(alloc)?;
     let start = Instant::now(rt)?;
-    let first = add(&mut blobs, &mut memory, &content);
+    let first = add_repeated(&mut blobs, &mut outside, &piece, 4_096);
     let first_time = micros(rt, start)?;
     let start = Instant::now(rt)?;
-    let second = add(&mut blobs, &mut memory, &content);
+    let second = add_repeated(&mut blobs, &mut outside, &piece, 4_096);
     let second_time = micros(rt, start)?;
-    println!(rt; "16 MiB: fresh {} {first_time} us, again {} {second_time} us", first == Some(true), second == Some(true))
+    println!(rt; "256 MiB: fresh {} {first_time} us, again {} {second_time} us", first == Some(true), second == Some(true))
 }
 
 fn small(rt: &HostRuntime, n: u32) -> io::Result<()> {
@@ -119,6 +141,7 @@ invariant-pieces g l = record {
   holds : g.G.Ground.tells → HoldsContents (g.G.Ground.state l.outside) l.blobs;
 }
 PROOF
+sed 's/proofs\.add\./proofs.add_repeated./' "$times/proofs/add/Invariants.antt" > "$times/proofs/add_repeated/Invariants.antt"
 cat > "$times/proofs/add_numbers/Invariants.antt" <<'PROOF'
 use Rattle.arti_blobs.specs.Contents.{HoldsContents}
 use Rattle.arti_blobs_times.proofs.add_numbers.Given as goal
@@ -127,9 +150,10 @@ abbrev pub invariant-numbers : goal.invariant-numbers
 invariant-numbers g l = g.G.Ground.tells → HoldsContents (g.G.Ground.state l.outside) l.blobs
 PROOF
 (cd "$times" && rt run)
-head -c 16777216 /dev/zero | tr '\0' '\7' > "$copy/content"
+rm -f "$times/3"
+head -c 268435456 /dev/zero | tr '\0' '\7' > "$copy/content"
 start=$(date +%s%N)
 sha256sum "$copy/content" > "$copy/sums"
 sha1sum "$copy/content" >> "$copy/sums"
 md5sum "$copy/content" >> "$copy/sums"
-echo "16 MiB by sha256sum, sha1sum and md5sum: $((($(date +%s%N) - start) / 1000)) us"
+echo "256 MiB by sha256sum, sha1sum and md5sum: $((($(date +%s%N) - start) / 1000)) us"
