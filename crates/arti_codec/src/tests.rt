@@ -309,3 +309,27 @@ fn the_longest_text(rt: HostRuntime) -> Result<(), Fail> {
     assert!(rt; is_refused(alloc, &long_user(alloc, 4097)?));
     Ok(())
 }
+
+// The changes that define the local repository `libs`, and that deploy `abc` as the first content.
+const WHOLE: [(&[u8], &str); 2] = [
+    (
+        b"\x00\x00\x00\x00\x00\x00\x00\x00\x00\x09anonymous\x00\x00\x00\x01\x01\x00\x04libs\x00\x00\x00\x00\x00\x00\x00\x00\x04**/*\x00\x00",
+        r#"Change { moment: Moment { ms: 0 }, user: Text { text: "anonymous" }, edits: Seq { items: [Define { def: RepoDef { key: Text { text: "libs" }, class: Local, url: Text { text: "" }, members: Seq { items: [] }, default_to: None, includes: Text { text: "**/*" }, excludes: Text { text: "" } } }] } }"#,
+    ),
+    (
+        b"\x00\x00\x00\x00\x00\x00\x00\x00\x00\x09anonymous\x00\x00\x00\x01\x03\x00\x0dgeneric-local\x00\x01.\x00\x01x\x00\x00\x00\x00\x00\x00\x00\x00\x00\x00\x00\x00\x00\x00\x00\x00\x03\x90\x01P\x98<\xd2O\xb0\xd6\x96?}(\xe1\x7fr\xa9\x99>6G\x06\x81j\xba>%qxP\xc2l\x9c\xd0\xd8\x9d\xbax\x16\xbf\x8f\x01\xcf\xeaAA@\xde]\xae\"#\xb0\x03a\xa3\x96\x17z\x9c\xb4\x10\xffa\xf2\x00\x15\xad\x00\x00",
+        r#"Change { moment: Moment { ms: 0 }, user: Text { text: "anonymous" }, edits: Seq { items: [File { key: ItemKey { repo: Text { text: "generic-local" }, path: Text { text: "." }, name: Text { text: "x" } }, given: Given { md5: false, sha1: false, sha256: false }, file: FileRef { place: 0, len: 3, digests: Digests { md5: [144, 1, 80, 152, 60, 210, 79, 176, 214, 150, 63, 125, 40, 225, 127, 114], sha1: [169, 153, 62, 54, 71, 6, 129, 106, 186, 62, 37, 113, 120, 80, 194, 108, 156, 208, 216, 157], sha256: [186, 120, 22, 191, 143, 1, 207, 234, 65, 65, 64, 222, 93, 174, 34, 35, 176, 3, 97, 163, 150, 23, 122, 156, 180, 16, 255, 97, 242, 0, 21, 173] } }, props: Seq { items: [] } }] } }"#,
+    ),
+];
+
+#[test]
+fn whole_changes_both_ways(rt: HostRuntime) -> Result<(), Fail> {
+    let alloc = rt.alloc();
+    for (bytes, meaning) in WHOLE {
+        let change = decode(alloc, bytes).ok().ok_or("a change")?;
+        let shown = format!(in alloc; "{change:?}")?;
+        assert_eq!(rt; shown.as_str(), meaning);
+        assert!(rt; encode(alloc, &change)?.as_slice() == bytes);
+    }
+    Ok(())
+}
