@@ -1,19 +1,19 @@
 -- The laws of the edits and of a change.
-use Rattle.std.proofs.Common.{◌≡◌, ◌≢◌, ℕ, zero, suc, ◌+◌, ◌<◌, ◌≤◌, Bool, true, false, cond, eqb, List, [], ◌∷◌, ◌++◌, length, Option, Some, None, Result, Ok, Err, refl, sym, ap, subst, ◌∙◌, append_assoc, append-nil, arith}
+use Rattle.std.proofs.Common.{◌≡◌, ℕ, suc, ◌≤◌, Bool, true, false, cond, eqb, List, [], ◌∷◌, ◌++◌, length, Option, Some, None, Err, refl, sym, ap, subst, ◌∙◌, append-nil}
 use Rattle.std.specs.Prelude.{nat_le, IsErrOf}
 use Rattle.std.specs.Int.{w32}
-use Rattle.std.proofs.lemmas.Bool.{leb-true, le-leb, eqb-true, cases_Bool}
-use Rattle.std.proofs.lemmas.Option.{option_and_then_some, same_Some, cond_some, none-some}
+use Rattle.std.proofs.lemmas.Bool.{leb-true, le-leb, eqb-true}
+use Rattle.std.proofs.lemmas.Option.{option_and_then_some, same_Some, none-some}
 use Rattle.arti_codec.specs.declared.fault.DecodeFault.{DecodeFault}
 use Rattle.arti_codec.specs.declared.fault.DecodeFault.TheVariants.{NotAChange, Memory}
 use Rattle.arti_rows.specs.declared.edits.Edit.{Edit}
 use Rattle.arti_rows.specs.declared.edits.Edit.TheVariants as edits
 use Rattle.arti_rows.specs.declared.edits.Change.{Change}
-use Rattle.arti_codec.specs.Format.{Format, ◌⨟◌, of_parts, where_holds, IsBytes, listed}
-use Rattle.arti_codec.specs.Reading.{Gives, ◌>>=◌, ◌▷◌, made, tested, told_by, byte_at, listed_at}
-use Rattle.arti_codec.specs.ChangeBytes.{text, moment, item_key, file_ref, item_row, build_name, build_info, build_row, definition, file_fields, set_fields, drop_fields, promote_fields, KeepsEdit, edit_bytes, edit, edit_list, change, ChangeBytes}
-use Rattle.arti_codec.specs.ReadingRows.{text_at, moment_at, item_key_at, file_ref_at, item_row_at, build_name_at, build_info_at, build_row_at, definition_at, file_fields_at, set_fields_at, drop_fields_at, promote_fields_at, fields_at, edit_at, edit_list_at, change_at}
-use Rattle.arti_codec.proofs.FieldLaws.{Took, IsRead, pair_law, parts_law, where_law, listed_law, wide_32}
+use Rattle.arti_codec.specs.Format.{Format, IsBytes}
+use Rattle.arti_codec.specs.Reading.{Gives, made}
+use Rattle.arti_codec.specs.ChangeBytes.{KeepsEdit, edit_bytes, edit, edit_list, change, ChangeBytes}
+use Rattle.arti_codec.specs.ReadingRows.{fields_at, edit_at, edit_list_at, change_at}
+use Rattle.arti_codec.proofs.FieldLaws.{IsRead, pair_law, parts_law, where_law, listed_law, wide_32}
 use Rattle.arti_codec.proofs.RowLaws.{text_law, moment_law, item_key_law, file_ref_law, item_row_law, build_name_law, build_info_law, build_row_law, definition_law, file_fields_law, set_fields_law, drop_fields_law, promote_fields_law}
 
 -- the fields of the edit with that number stood at the front of the bytes

@@ -1,5 +1,5 @@
 -- What is read is spelled so, and what is spelled so is read.
-use Rattle.std.proofs.Common.{◌≡◌, ℕ, zero, suc, ◌+◌, ◌*◌, ◌^◌, ◌<◌, ◌≤◌, Bool, true, false, cond, ltb, leb, List, [], ◌∷◌, ◌++◌, length, get_or, take, drop, All, Option, Some, None, refl, sym, ap, subst, ◌∙◌, append_assoc, arith, inl, inr, nat_lt, nat_le}
+use Rattle.std.proofs.Common.{◌≡◌, ℕ, zero, suc, ◌+◌, ◌^◌, ◌<◌, ◌≤◌, Bool, true, false, cond, ltb, List, [], ◌∷◌, ◌++◌, length, take, drop, All, Option, Some, None, refl, sym, ap, subst, ◌∙◌, append_assoc, arith, inl, inr, nat_lt, nat_le}
 use Rattle.std.specs.List.{flat_map}
 use Rattle.std.specs.Int.{Width, w16, w32, w64, byte_len, from_be_bytes, to_be_bytes}
 use Rattle.std.proofs.lemmas.Bool.{cases_lt, ltb-false, ltb-true, lt-ltb, le-ltb, leb-true, le-leb, false≢true}
@@ -7,8 +7,8 @@ use Rattle.std.proofs.lemmas.Option.{option_and_then_some, same_Some, cond_some}
 use Rattle.std.proofs.lemmas.List.{take_at, drop_at, take-append-drop, length-append, length-take, get_or-drop, get_or-take, get_or_past}
 use Rattle.std.proofs.lemmas.List.Elements.{All-head, All-tail, All-cons, All-nil}
 use Rattle.std.proofs.lemmas.Nat.{be_bytes_2, be_bytes_4, be_bytes_8, from_be_bytes-to_be_bytes_2, from_be_bytes-to_be_bytes_4, from_be_bytes-to_be_bytes_8}
-use Rattle.arti_codec.specs.Format.{Format, ◌⨟◌, of_parts, where_holds, behind, number, byte, bit, flag, IsBytes, run, times, listed, limited, optional}
-use Rattle.arti_codec.specs.Reading.{◌>>=◌, ◌▷◌, made, tested, told_by, run_at, byte_at, flag_at, number_at, times_at, listed_at, limited_at, optional_at}
+use Rattle.arti_codec.specs.Format.{Format, ◌⨟◌, of_parts, where_holds, behind, number, IsBytes, run, times, listed, limited, optional}
+use Rattle.arti_codec.specs.Reading.{◌>>=◌, ◌▷◌, made, tested, told_by, run_at, byte_at, number_at, times_at, listed_at, limited_at, optional_at}
 
 -- the value stood at the front of the bytes
 abbrev pub Took : {A : Type 0} → Format A → List ℕ → A → List ℕ → Type 0

@@ -1,7 +1,7 @@
 -- The laws of the rows and edits of a change.
-use Rattle.std.proofs.Common.{◌≡◌, ◌≢◌, ℕ, zero, suc, ◌+◌, ◌-◌, ◌*◌, ◌^◌, ◌<◌, ◌≤◌, Bool, true, false, cond, ltb, leb, eqb, List, [], ◌∷◌, ◌++◌, length, get_or, take, drop, All, Option, Some, None, refl, sym, ap, subst, ◌∙◌, append_assoc, arith, inl, inr, nat_lt, nat_le, ℤ, pos, negsuc, ◌≤ℤ◌}
-use Rattle.std.specs.Prelude.{IsUtf8, is_none, is_some, unwrap_or, nat_eq, FitsSigned, ◌&&◌, ◌==◌, ◌/◌, ◌%◌}
-use Rattle.std.specs.Int.{Width, w16, w32, w64, cast_unsigned, cast_signed}
+use Rattle.std.proofs.Common.{◌≡◌, ◌≢◌, ℕ, zero, suc, ◌+◌, ◌-◌, ◌*◌, ◌<◌, ◌≤◌, Bool, true, false, cond, leb, List, [], ◌∷◌, ◌++◌, length, Option, Some, None, refl, sym, ap, subst, ◌∙◌, arith, ℤ, pos, negsuc}
+use Rattle.std.specs.Prelude.{IsUtf8, is_none, is_some, unwrap_or, nat_eq, FitsSigned, ◌&&◌, ◌==◌}
+use Rattle.std.specs.Int.{w16, w32, w64, cast_unsigned, cast_signed}
 use Rattle.std.specs.Str.{is_utf8}
 use Rattle.std.specs.Cmp.Lexicographic.{pointwise, bytes_decides}
 use Rattle.std.proofs.lemmas.Bool.{and_parts, and_from, leb-true, le-leb, false≢true}
@@ -9,20 +9,19 @@ use Rattle.std.proofs.lemmas.Option.{option_and_then_some, same_Some, cond_some}
 use Rattle.std.proofs.lemmas.Int.{ints, to_z-of_z, of_z-to_z}
 use Rattle.std.proofs.lemmas.List.{length-append}
 use Rattle.std.proofs.lemmas.Str.{IsUtf8-from_is_utf8, is_utf8-from_IsUtf8}
-use Rattle.arti_rows.specs.Key.{Key, whole_of, path_of, name_of, key_of}
+use Rattle.arti_rows.specs.Key.{Key, whole_of, path_of, name_of}
 use Rattle.arti_rows.specs.Names.{IsKey, key_fault}
 use Rattle.arti_rows.specs.Moments.{IsMoment}
 use Rattle.arti_rows.specs.declared.fault.KeyFault.{KeyFault}
 use Rattle.arti_rows.specs.declared.rows.Given.{Given}
-use Rattle.arti_rows.specs.declared.rows.SomeDigests.{SomeDigests}
 use Rattle.arti_rows.specs.declared.rows.Class.{Class}
 use Rattle.arti_rows.specs.declared.rows.Class.TheVariants.{Local, Remote, Virtual}
-use Rattle.arti_codec.specs.Format.{Format, ◌⨟◌, of_parts, where_holds, behind, number, byte, bit, flag, IsBytes, run, times, listed, limited, IsThere, optional}
-use Rattle.arti_codec.specs.Reading.{◌>>=◌, ◌▷◌, made, tested, told_by, run_at, byte_at, flag_at, number_at, times_at, listed_at, limited_at, optional_at}
+use Rattle.arti_codec.specs.Format.{Format, ◌⨟◌, of_parts, where_holds, number, bit, flag, run, IsThere, optional}
+use Rattle.arti_codec.specs.Reading.{◌▷◌, made, run_at, flag_at, number_at, optional_at}
 use Rattle.arti_codec.specs.Rules.{is_build_name, is_property, property_cmp, ascends, are_prop_keys, is_definition}
-use Rattle.arti_codec.specs.ChangeBytes.{text, moment, item_key, property, properties, digests, file_ref, given, which, some_digests, flagged, stat, item_row, promotion, artifact, dependency, module_row, build_name, build_parts, build_info, info_of, build_row, class_number, class_byte, text_or_none, definition, prop_keys, file_fields, set_fields, drop_fields, promote_fields, edit, edit_list, change}
-use Rattle.arti_codec.specs.ReadingRows.{text_at, is_moment, moment_at, is_key, item_key_at, property_at, properties_at, digests_at, file_ref_at, given_of, given_at, some_digests_at, flagged_at, stat_at, item_row_at, promotion_at, artifact_at, dependency_at, module_row_at, build_name_at, build_parts_at, build_info_at, build_row_at, class_of, class_at, none_if_empty, text_or_none_at, definition_parts_at, definition_at, prop_keys_at, file_fields_at, set_fields_at, drop_fields_at, promote_fields_at, fields_at, edit_at, edit_list_at, change_at}
-use Rattle.arti_codec.proofs.FieldLaws.{Took, IsRead, pair_law, parts_law, where_law, behind_law, run_law, wide_16, wide_32, wide_64, number_law, code_law, optional_law, times_law, listed_law, limited_law, most_law}
+use Rattle.arti_codec.specs.ChangeBytes.{text, moment, item_key, property, properties, digests, file_ref, given, which, some_digests, flagged, stat, item_row, promotion, artifact, dependency, module_row, build_name, build_parts, build_info, info_of, build_row, class_number, class_byte, text_or_none, definition, prop_keys, file_fields, set_fields, drop_fields, promote_fields}
+use Rattle.arti_codec.specs.ReadingRows.{text_at, is_moment, moment_at, is_key, item_key_at, property_at, properties_at, digests_at, file_ref_at, given_of, given_at, some_digests_at, flagged_at, stat_at, item_row_at, promotion_at, artifact_at, dependency_at, module_row_at, build_name_at, build_parts_at, build_info_at, build_row_at, class_of, class_at, none_if_empty, text_or_none_at, definition_parts_at, definition_at, prop_keys_at, file_fields_at, set_fields_at, drop_fields_at, promote_fields_at}
+use Rattle.arti_codec.proofs.FieldLaws.{Took, IsRead, pair_law, parts_law, where_law, behind_law, run_law, wide_16, wide_32, wide_64, number_law, code_law, optional_law, listed_law, limited_law, most_law}
 
 pub text_law : IsRead text text_at
 unfolding text text_at

@@ -1,5 +1,5 @@
 -- The bytes of a change (of this project). Numbers are unsigned but for moments, and the greatest byte goes first.
-use Rattle.std.specs.Prelude.{◌≡◌, ◌≢◌, ℕ, ◌+◌, ◌*◌, ◌<◌, ◌≤◌, List, [], ◌∷◌, ◌++◌, length, Bool, true, Option, Some, None, IsUtf8, ℤ, is_some, unwrap_or}
+use Rattle.std.specs.Prelude.{◌≡◌, ◌≢◌, ℕ, ◌+◌, ◌*◌, ◌≤◌, List, [], ◌∷◌, length, Bool, true, Option, Some, IsUtf8, ℤ, is_some, unwrap_or}
 use Rattle.std.specs.Int.{w16, w32, w64, cast_unsigned}
 use Rattle.arti_rows.specs.Key.{Key}
 use Rattle.arti_rows.specs.Names.{IsKey}
@@ -23,7 +23,7 @@ use Rattle.arti_rows.specs.declared.edits.BuildInfo.{BuildInfo}
 use Rattle.arti_rows.specs.declared.edits.Edit.{Edit}
 use Rattle.arti_rows.specs.declared.edits.Edit.TheVariants as edits
 use Rattle.arti_rows.specs.declared.edits.Change.{Change}
-use Rattle.arti_codec.specs.Format.{Format, ◌⨟◌, of_parts, where_holds, behind, number, byte, bit, flag, run, listed, limited, optional}
+use Rattle.arti_codec.specs.Format.{Format, ◌⨟◌, of_parts, where_holds, behind, number, bit, flag, run, listed, limited, optional}
 use Rattle.arti_codec.specs.Rules.{is_build_name, is_property, property_cmp, ascends, are_prop_keys, is_definition}
 
 -- at most 4,096 bytes of UTF-8 behind their number

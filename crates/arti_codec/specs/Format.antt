@@ -1,6 +1,6 @@
 -- Formats: which values have bytes, and which bytes a value has.
-use Rattle.std.specs.Prelude.{◌≡◌, ℕ, ◌+◌, ◌*◌, ◌<◌, ◌≤◌, ◌^◌, List, [], ◌∷◌, ◌++◌, length, get_or, Bool, true, false, if◌then◌else◌, Option, Some, None, All}
-use Rattle.std.specs.Int.{Width, w16, w32, byte_len, to_be_bytes}
+use Rattle.std.specs.Prelude.{◌≡◌, ℕ, ◌<◌, ◌≤◌, ◌^◌, List, [], ◌∷◌, ◌++◌, length, get_or, Bool, true, false, if◌then◌else◌, Option, Some, None, All}
+use Rattle.std.specs.Int.{Width, byte_len, to_be_bytes}
 use Rattle.std.specs.List.{flat_map}
 
 pub record Format (A : Type 0) : Type 1 where
