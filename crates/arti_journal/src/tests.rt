@@ -55,6 +55,30 @@ fn bytes_of_a_journal(rt: HostRuntime) -> Result<(), Fail> {
     Ok(())
 }
 
+// The body of a change that defines a repository, and the file of a journal with it alone.
+const BODY: &[u8] =
+    b"\x00\x00\x00\x00\x00\x00\x00\x00\x00\x09anonymous\x00\x00\x00\x01\x01\x00\x04libs\x00\x00\x00\x00\x00\x00\x00\x00\x04**/*\x00\x00";
+
+const FILE: &[u8] =
+    b"ARTIJNL1\x01\0\0\0\0\0\0\0\x01\0\0\0\x2d\x00\x00\x00\x00\x00\x00\x00\x00\x00\x09anonymous\x00\x00\x00\x01\x01\x00\x04libs\x00\x00\x00\x00\x00\x00\x00\x00\x04**/*\x00\x00\0";
+
+#[test]
+fn one_change_in_a_journal(rt: HostRuntime) -> Result<(), Fail> {
+    let alloc = rt.alloc();
+    let mut ground = MemoryGround::new(alloc, 100, 1000)?;
+    assert_eq!(rt;
+        add_body(alloc, &mut ground, BODY, 66),
+        Err(Some(AppendFault::Full))
+    );
+    assert_eq!(rt; add_body(alloc, &mut ground, BODY, 67), Ok(67));
+    let mut bytes = [9u8; 80];
+    assert_eq!(rt; ground.read(1, 0, &mut bytes), Ok(67));
+    assert_eq!(rt; &bytes[..67], FILE);
+    let mut longer = MemoryGround::new(alloc, 100, 1000)?;
+    assert_eq!(rt; add_body(alloc, &mut longer, &[7; 132], 154), Ok(154));
+    Ok(())
+}
+
 #[test]
 fn bodies_longer_than_a_piece(rt: HostRuntime) -> Result<(), Fail> {
     let alloc = rt.alloc();
