@@ -51,7 +51,7 @@ fn stage<G: Ground>(
     }
     blobs.stage_begin();
     'pieces: for piece in content.chunks(size) {
-        blobs.stage_piece(outside, piece, 65_536)?;
+        blobs.stage_piece(outside, piece, 1_048_576)?;
     }
     blobs.stage_end(outside)
 }
@@ -130,7 +130,7 @@ fn numbers(alloc: Global, len: usize) -> Result<Vec<u8>, AllocError> {
 #[test]
 fn digests_from_outside(rt: HostRuntime) -> Result<(), Fail> {
     let alloc = rt.alloc();
-    let rows: [(usize, Digests); 6] = [
+    let rows: [(usize, Digests); 7] = [
         (
             0,
             Digests {
@@ -179,14 +179,23 @@ fn digests_from_outside(rt: HostRuntime) -> Result<(), Fail> {
                 sha256: *b"\x4b\x64\x0d\x85\xab\x3b\xa3\x0f\xd0\x2c\x9f\xc9\xdb\x4a\x89\x28\xf4\x16\x32\x2a\xd2\x70\x22\xea\x58\xa6\x5a\xae\xe6\x8a\x4d\xf2",
             },
         ),
+        (
+            1_048_576,
+            Digests {
+                md5: *b"\x8f\x29\x3a\x2f\x6c\x19\xb3\x45\x15\x2f\x7a\x49\xbb\x4c\x64\x3c",
+                sha1: *b"\xc2\xfc\x4c\xb2\x0f\x13\x01\xa6\xb0\xdd\x21\x1c\x19\xe6\x9a\x13\x92\x5d\xbe\x40",
+                sha256: *b"\x63\x1b\x84\x02\x7d\x6b\x9e\x52\xb5\x39\xc4\xe8\x37\x36\x22\xd2\x30\x32\xdf\xad\xc6\x4d\x60\xaf\x87\x33\x9c\x90\x37\xe4\xf7\x69",
+            },
+        ),
     ];
     for (len, digests) in rows {
         let content = numbers(alloc, len)?;
         assert_eq!(rt; digests_of(&content), digests);
-        for size in [1usize, 7, 65_537] {
-            let mut ground = MemoryGround::new(alloc, 70_000, 70_000)?;
+        let small = if len > 65_536 { 4096 } else { 1 };
+        for size in [small, 7, 65_537] {
+            let mut ground = MemoryGround::new(alloc, 1_048_600, 1_048_600)?;
             let mut blobs = no_contents(alloc)?;
-            let staged = add(&mut blobs, &mut ground, &content, size, 65_536);
+            let staged = add(&mut blobs, &mut ground, &content, size, 1_048_576);
             let file = FileRef {
                 place: 0,
                 len: len as u64,
@@ -194,7 +203,7 @@ fn digests_from_outside(rt: HostRuntime) -> Result<(), Fail> {
             };
             assert_eq!(rt; staged, Ok(Staged { file, fresh: true }));
             assert_eq!(rt; blobs.kept_length(), len as u64);
-            let mut bytes = vec![in alloc; 0u8; 65_537]?;
+            let mut bytes = vec![in alloc; 0u8; 1_048_577]?;
             let n = ground.read(3, 0, &mut bytes)?;
             bytes.truncate(n);
             assert_eq!(rt; bytes.as_slice(), content.as_slice());
@@ -267,9 +276,9 @@ fn recorded_digests_of_another_content(rt: HostRuntime) -> Result<(), Fail> {
 #[test]
 fn limits_to_the_byte(rt: HostRuntime) -> Result<(), Fail> {
     let alloc = rt.alloc();
-    let mut ground = MemoryGround::new(alloc, 1000, 200_000)?;
+    let mut ground = MemoryGround::new(alloc, 2000, 1_200_000)?;
     let mut blobs = no_contents(alloc)?;
-    let long = numbers(alloc, 65_537)?;
+    let long = numbers(alloc, 1_048_577)?;
     assert_eq!(rt;
         stage(&mut blobs, &mut ground, &long, 1000),
         Err(StageFault::TooLarge)
