@@ -46,16 +46,31 @@ fn body(alloc: Global) -> io::Result<Framed> {
     }
 }
 
-fn append_all(rt: &HostRuntime, outside: &mut RealGround<Stdout>) -> io::Result<u128> {
-    let alloc = rt.alloc();
-    let framed = body(alloc)?;
-    let Ok((mut journal, _)) = Journal::open(alloc, outside, 1) else {
-        return Err(io::Error::from(io::ErrorKind::Other));
-    };
+fn failed() -> io::Error {
+    io::Error::from(io::ErrorKind::Other)
+}
+
+fn opened(alloc: Global, outside: &mut RealGround<Stdout>) -> io::Result<Journal> {
+    match Journal::open(alloc, outside, 1) {
+        Ok((journal, _bodies)) => Ok(journal),
+        Err(_) => Err(failed()),
+    }
+}
+
+fn append(journal: &mut Journal, outside: &mut RealGround<Stdout>, framed: &Framed) -> bool {
+    journal.append(outside, framed, 1 << 40).is_ok()
+}
+
+fn append_all(
+    rt: &HostRuntime,
+    journal: &mut Journal,
+    outside: &mut RealGround<Stdout>,
+    framed: &Framed,
+) -> io::Result<u128> {
     let start = Instant::now(rt)?;
     for _ in 0..COUNT {
-        if journal.append(outside, &framed, 1 << 40).is_err() {
-            return Err(io::Error::from(io::ErrorKind::Other));
+        if !append(journal, outside, framed) {
+            return Err(failed());
         }
     }
     Ok(start.elapsed(rt)?.as_micros())
@@ -63,7 +78,9 @@ fn append_all(rt: &HostRuntime, outside: &mut RealGround<Stdout>) -> io::Result<
 
 fn main(rt: HostRuntime) -> io::Result<()> {
     let mut outside = RealGround::new(&rt, rt.alloc(), ".", rt.stdout())?;
-    let time = append_all(&rt, &mut outside)?;
+    let framed = body(rt.alloc())?;
+    let mut journal = opened(rt.alloc(), &mut outside)?;
+    let time = append_all(&rt, &mut journal, &mut outside, &framed)?;
     println!(rt; "{time}")
 }
 PROGRAM
