@@ -1,6 +1,6 @@
 #!/bin/bash
 # Times `decode` and `encode` on changes of many edits. Each line doubles the edits, so that quadratic time shows as a
-# factor of four. The last lines are bytes that claim 4,294,967,295 edits and end early: what is taken for them is
+# factor of four. The first lines are bytes that claim 4,294,967,295 edits and end early: what is taken for them is
 # what stands there. It works in a copy, and leaves nothing in the repository.
 #
 #     bench/codec/run.sh
@@ -64,14 +64,14 @@ fn times(rt: &HostRuntime, name: &str, edit: &[u8], claimed: u32, times: u32) ->
 }
 
 fn main(rt: HostRuntime) -> io::Result<()> {
+    for count in [1, 100_000] {
+        times(&rt, "items", ITEM, 4_294_967_295, count)?;
+    }
     for count in [25_000, 50_000, 100_000, 200_000] {
         times(&rt, "items", ITEM, count, count)?;
     }
     for count in [12_500, 25_000, 50_000, 100_000] {
         times(&rt, "builds", BUILD, count, count)?;
-    }
-    for count in [1, 100_000] {
-        times(&rt, "items", ITEM, 4_294_967_295, count)?;
     }
     Ok(())
 }
