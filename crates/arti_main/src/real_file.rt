@@ -12,6 +12,7 @@ pub struct RealFile {
     path: String,
     file: Option<File>,
     written: bool,
+    made: bool,
 }
 
 // Reads what the file has from this place on.
@@ -40,6 +41,7 @@ impl RealFile {
             path: format!(in alloc; "{folder}/{number}")?,
             file: None,
             written: false,
+            made: false,
         })
     }
 
@@ -62,10 +64,10 @@ impl RealFile {
         }
     }
 
-    // Makes the file where it isn't there. True: it was made.
-    fn make(&mut self, rt: &HostRuntime) -> Result<bool, Failed> {
+    // Makes the file where it isn't there.
+    fn make(&mut self, rt: &HostRuntime) -> Result<(), Failed> {
         if self.open(rt)? {
-            return Ok(false);
+            return Ok(());
         }
         match OpenOptions::new()
             .read(true)
@@ -75,7 +77,8 @@ impl RealFile {
         {
             Ok(file) => {
                 self.file = Some(file);
-                Ok(true)
+                self.made = true;
+                Ok(())
             }
             Err(_) => Err(Failed),
         }
@@ -106,16 +109,16 @@ impl RealFile {
         }
     }
 
-    /// Writes at a place. True: the file was made for it.
-    pub fn write_at(&mut self, rt: &HostRuntime, at: u64, bytes: &[u8]) -> Result<bool, Failed> {
-        let made = self.make(rt)?;
+    /// Writes at a place.
+    pub fn write_at(&mut self, rt: &HostRuntime, at: u64, bytes: &[u8]) -> Result<(), Failed> {
+        self.make(rt)?;
         self.written = true;
         match &mut self.file {
             Some(file) => {
                 if file.seek(SeekFrom::Start(at)).is_err() || file.write_all(bytes).is_err() {
                     return Err(Failed);
                 }
-                Ok(made)
+                Ok(())
             }
             None => Err(Failed),
         }
@@ -131,6 +134,16 @@ impl RealFile {
             Some(file) => file.set_len(len).map_err(|_| Failed),
             None => Err(Failed),
         }
+    }
+
+    /// Whether it was made, and its name may not have reached the device.
+    pub fn is_made(&self) -> bool {
+        self.made
+    }
+
+    /// Its name has reached the device.
+    pub fn name_is_synced(&mut self) {
+        self.made = false;
     }
 
     /// What was written since the last such call reaches the device.

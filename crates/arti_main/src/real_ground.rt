@@ -14,7 +14,6 @@ pub struct RealGround<W: Write + Drop> {
     rt: HostRuntime,
     folder: String,
     files: [RealFile; 6],
-    made: bool,
     out: W,
     disk_faults: u64,
     tell_faults: u64,
@@ -36,17 +35,24 @@ fn sync_folder(rt: &HostRuntime, folder: &str) -> Result<(), Failed> {
     }
 }
 
-// All that was written reaches the device; `made` tells whether a file was made since it last did.
-fn sync_all(
-    rt: &HostRuntime,
-    folder: &str,
-    files: &mut [RealFile; 6],
-    made: &mut bool,
-) -> Result<(), Failed> {
+// Whether a file was made since the folder last reached the device.
+fn some_made(files: &[RealFile; 6]) -> bool {
+    for file in files.iter() {
+        if file.is_made() {
+            return true;
+        }
+    }
+    false
+}
+
+// All that was written reaches the device, and the folder where a file was made.
+fn sync_all(rt: &HostRuntime, folder: &str, files: &mut [RealFile; 6]) -> Result<(), Failed> {
     sync_files(files)?;
-    if *made {
+    if some_made(files) {
         sync_folder(rt, folder)?;
-        *made = false;
+        for file in files.iter_mut() {
+            file.name_is_synced();
+        }
     }
     Ok(())
 }
@@ -70,7 +76,6 @@ impl<W: Write + Drop> RealGround<W> {
                 RealFile::new(alloc, folder, 4)?,
                 RealFile::new(alloc, folder, 5)?,
             ],
-            made: false,
             out,
             disk_faults: 0,
             tell_faults: 0,
@@ -110,16 +115,11 @@ impl<W: Write + Drop> Ground for RealGround<W> {
     }
 
     fn write_at(&mut self, file: u32, at: u64, bytes: &[u8]) -> Result<(), Failed> {
-        match self.files[file as usize].write_at(&self.rt, at, bytes) {
-            Ok(made) => {
-                self.made |= made;
-                Ok(())
-            }
-            Err(Failed) => {
-                self.disk_faults = self.disk_faults.saturating_add(1);
-                Err(Failed)
-            }
+        let outcome = self.files[file as usize].write_at(&self.rt, at, bytes);
+        if outcome.is_err() {
+            self.disk_faults = self.disk_faults.saturating_add(1);
         }
+        outcome
     }
 
     fn cut(&mut self, file: u32, len: u64) -> Result<(), Failed> {
@@ -131,12 +131,7 @@ impl<W: Write + Drop> Ground for RealGround<W> {
     }
 
     fn sync(&mut self) -> Result<(), Failed> {
-        let outcome = sync_all(
-            &self.rt,
-            self.folder.as_str(),
-            &mut self.files,
-            &mut self.made,
-        );
+        let outcome = sync_all(&self.rt, self.folder.as_str(), &mut self.files);
         if outcome.is_err() {
             self.disk_faults = self.disk_faults.saturating_add(1);
         }
