@@ -1,7 +1,9 @@
 -- What contracts see of an item's key.
 use Rattle.std.specs.Prelude.{◌≡◌, MatchBool, ℕ, ◌==◌, not, if◌then◌else◌, map, List, [], ◌∷◌, ◌++◌, codes, nat_eq}
 use Rattle.std.specs.List.{list_any, before_last, after_last}
-use Rattle.std.specs.Cmp.Lexicographic.{pointwise}
+use Rattle.std.specs.Cmp.Lexicographic.{pointwise, slice_cmp}
+use Rattle.std.specs.Ordering.{nat_cmp, ordering_then}
+use Rattle.std.specs.declared.cmp.Ordering.{Ordering}
 
 -- an item's key: its repository, the path of its folder, its name
 pub record Key : Type 0 where
@@ -41,3 +43,7 @@ fronts (b ∷ bytes) = if b == 47 then [] ∷ map (λ front. b ∷ front) (front
 -- the folders above a key, the topmost first
 abbrev pub folders_above : Key → List Key
 folders_above k = map (λ front. key_of k.repo front) (fronts (whole_of k))
+
+-- the default order of items: by repository, then path, then name, each in byte order
+abbrev pub key_cmp : Key → Key → Ordering
+key_cmp a b = ordering_then (slice_cmp nat_cmp a.repo b.repo) (ordering_then (slice_cmp nat_cmp a.path b.path) (slice_cmp nat_cmp a.name b.name))
