@@ -2,5 +2,6 @@ pub mod Requests
 pub mod Replies
 pub mod Bodies
 pub mod Store
+pub mod Query
 pub mod Step
 pub mod Run

@@ -1,12 +1,12 @@
 -- A whole stream of requests: the replies one after the other, and the repository at the end.
-use Rattle.std.specs.Prelude.{◌≡◌, ◌⊎◌, ℕ, zero, suc, ◌+◌, ℤ, pos, ◌+ℤ◌, Bool, false, IsTrue, List, [], ◌∷◌, ◌++◌, drop, codes}
+use Rattle.std.specs.Prelude.{◌≡◌, ◌⊎◌, ℕ, zero, suc, ◌+◌, ℤ, pos, ◌+ℤ◌, Bool, IsTrue, List, [], ◌∷◌, ◌++◌, drop, codes}
 use Rattle.arti_rows.specs.declared.limits.Limits.{Limits}
 use Rattle.arti_model.specs.declared.Why.{Why}
 use Rattle.arti_model.specs.declared.Why.TheVariants.{BadHead, HeadTooLarge, BadLength, UnknownCoding, BodyTooLarge}
 use Rattle.arti_model.specs.Requests.{Request, Whole, Ending, End, Cut, Bad, TooMany}
 use Rattle.arti_model.specs.Bodies.{refused}
 use Rattle.arti_model.specs.Store.{Repository}
-use Rattle.arti_model.specs.Step.{step}
+use Rattle.arti_model.specs.Step.{step, is_query}
 
 -- the first moment, or moment 0 where none is left
 abbrev pub first_of : List ℤ → ℤ
@@ -24,9 +24,9 @@ repository_after limits moments r [] = r
 repository_after limits moments r (q ∷ qs) =
     repository_after limits (drop 1 moments) (step limits r q (first_of moments)).repository qs
 
--- a request that is known to read alone; none of those that are built is
+-- a request that is known to read alone: a query
 abbrev pub is_reading : Request → Bool
-is_reading q = false
+is_reading q = is_query q
 
 -- the reply where a reading request found no memory
 abbrev pub memory_reply : List ℕ

@@ -1,5 +1,5 @@
 -- What one request does to a repository, and its reply (of this project, after the REST API of JFrog Artifactory).
-use Rattle.std.specs.Prelude.{◌≡◌, ℕ, ◌+◌, ℤ, Bool, true, false, not, ◌&&◌, ◌||◌, nat_eq, nat_le, if◌then◌else◌, List, [], ◌∷◌, ◌++◌, length, map, filter, drop, codes, Option, Some, None, is_none}
+use Rattle.std.specs.Prelude.{◌≡◌, ℕ, ◌+◌, ℤ, Bool, true, false, not, ◌&&◌, ◌||◌, nat_eq, nat_le, nat_lt, if◌then◌else◌, List, [], ◌∷◌, ◌++◌, length, map, filter, drop, codes, decimal, Option, Some, None, is_none}
 use Rattle.std.specs.List.{list_any, list_all, starts_with}
 use Rattle.std.specs.Cmp.Lexicographic.{pointwise}
 use Rattle.md5.specs.Md5.{md5}
@@ -11,7 +11,8 @@ use Rattle.arti_rows.specs.declared.limits.Limits.{Limits}
 use Rattle.arti_rows.specs.declared.rows.Digests.{Digests}
 use Rattle.std.specs.Str.{str_eq_ignore_ascii_case}
 use Rattle.arti_model.specs.Requests.{Request, Whole, FieldText}
-use Rattle.arti_model.specs.Store.{Repository, Item, File, find_item, has_file, has_item}
+use Rattle.arti_model.specs.Store.{Repository, Item, File, find_item, has_file, has_item, put_items}
+use Rattle.arti_model.specs.Query.{all_in, query_text, thin_key, thin_end}
 use Rattle.arti_model.specs.Bodies.{refused, refused_head, json_reply, deploy_body, content_reply, item_text}
 
 -- a repository after a request, and the reply
@@ -97,10 +98,10 @@ new_file moment user key file = record (new_folder moment user key) { file = Som
 abbrev pub missing_folders : List Item → Key → List Key
 missing_folders items key = filter (λ folder. not (has_item items folder)) (folders_above key)
 
--- the items with a new file, and the folders above it that were missing before it
+-- the items with a new file and the folders above it that were missing
 abbrev pub with_file : List Item → ℤ → List ℕ → Key → File → List Item
 with_file items moment user key file =
-    items ++ map (new_folder moment user) (missing_folders items key) ++ new_file moment user key file ∷ []
+    put_items (map (new_folder moment user) (missing_folders items key) ++ new_file moment user key file ∷ []) items
 
 -- nothing is there, no file stands above, and the limit of items isn't passed
 abbrev pub can_deploy : Limits → List Item → Key → Bool
@@ -151,6 +152,34 @@ fetched key (Some item) = fetched_file key item.file
 abbrev pub fetch : Repository → Key → Answer
 fetch r key = unchanged r (fetched key (find_item r.items key))
 
+-- ---- queries
+
+-- the target of a query
+abbrev pub query_target : List ℕ
+query_target = codes "/api/search/aql"
+
+-- a query, whatever its body is
+abbrev pub is_query : Request → Bool
+is_query q = has_method q (codes "POST") && pointwise nat_eq q.target query_target
+
+-- how many bytes the body of a reply may have
+abbrev pub reply_room : ℕ
+reply_room = 67_108_864
+
+-- a query's reply, where it isn't too large
+abbrev pub queried : List ℕ → List ℕ
+queried body = if nat_le (length body) reply_room then json_reply 200 body else refused 413 (codes "ReplyTooLarge")
+
+-- the reply to a query by the key in its body
+abbrev pub query_reply : Repository → List ℕ → Option (List ℕ) → List ℕ
+query_reply r body None = refused 501 (codes "NotYet: " ++ decimal (thin_end body))
+query_reply r body (Some key) = queried (query_text (all_in key) r)
+
+-- the answer to a query with that body
+abbrev pub query : Limits → Repository → List ℕ → Answer
+query limits r body =
+    unchanged r (if nat_lt limits.document (length body) then refused 413 (codes "DocumentTooLarge") else query_reply r body (thin_key body))
+
 -- a deploy or a fetch of an item
 abbrev pub step_on : Limits → Repository → Whole → ℤ → Option Key → Answer
 step_on limits r q moment None = not_built q.head r
@@ -160,4 +189,5 @@ step_on limits r q moment (Some key) =
 
 -- one request at a moment
 unfoldable pub step : Limits → Repository → Whole → ℤ → Answer
-step limits r q moment = step_on limits r q moment (item_asked q.head)
+step limits r q moment =
+    if is_plain q.head && is_query q.head then query limits r q.body else step_on limits r q moment (item_asked q.head)

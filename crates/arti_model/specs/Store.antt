@@ -1,8 +1,9 @@
 -- The repository: lists of rows, without index.
-use Rattle.std.specs.Prelude.{ℕ, ℤ, Bool, ◌&&◌, nat_eq, List, [], Option, is_some}
+use Rattle.std.specs.Prelude.{ℕ, ℤ, Bool, ◌&&◌, nat_eq, List, [], ◌∷◌, ◌++◌, filter, Option, is_some}
 use Rattle.std.specs.List.{find, list_any}
+use Rattle.std.specs.Ordering.{is_lt}
 use Rattle.std.specs.Cmp.Lexicographic.{pointwise}
-use Rattle.arti_rows.specs.Key.{Key}
+use Rattle.arti_rows.specs.Key.{Key, key_cmp}
 use Rattle.arti_rows.specs.declared.rows.Digests.{Digests}
 use Rattle.arti_rows.specs.declared.rows.Given.{Given}
 use Rattle.arti_rows.specs.declared.rows.Property.{Property}
@@ -26,7 +27,7 @@ pub record Item : Type 0 where
   pub props : List Property
   pub stat : Option Stat
 
--- all that a repository holds
+-- all that a repository holds; its items stand in the default order
 pub record Repository : Type 0 where
   pub items : List Item
 
@@ -55,3 +56,15 @@ has_file items key = list_any (λ item. same_key item.key key && is_file item) i
 -- whether something stands at the key
 abbrev pub has_item : List Item → Key → Bool
 has_item items key = list_any (λ item. same_key item.key key) items
+
+-- ---- changes
+
+-- the items with one more at its place in the default order, where it takes the place of one of its key
+abbrev pub put_item : Item → List Item → List Item
+put_item new items =
+    filter (λ item. is_lt (key_cmp item.key new.key)) items ++ new ∷ filter (λ item. is_lt (key_cmp new.key item.key)) items
+
+-- the same for several, one after the other
+abbrev pub put_items : List Item → List Item → List Item
+put_items [] items = items
+put_items (new ∷ others) items = put_items others (put_item new items)
