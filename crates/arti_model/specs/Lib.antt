@@ -4,4 +4,5 @@ pub mod Bodies
 pub mod Store
 pub mod Query
 pub mod Step
+pub mod Apply
 pub mod Run
