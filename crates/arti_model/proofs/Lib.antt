@@ -1,3 +1,4 @@
 mod Rows
 pub mod OneReading
 mod Runs
+mod Orders

@@ -1,7 +1,8 @@
 -- The repository: lists of rows, without index.
-use Rattle.std.specs.Prelude.{ℕ, ℤ, Bool, ◌&&◌, nat_eq, List, [], ◌∷◌, ◌++◌, filter, Option, is_some}
-use Rattle.std.specs.List.{find, list_any}
+use Rattle.std.specs.Prelude.{◌≡◌, ℕ, ℤ, Bool, ◌&&◌, nat_eq, List, [], ◌∷◌, ◌++◌, filter, Option, is_some}
+use Rattle.std.specs.List.{find, list_any, AllPairs}
 use Rattle.std.specs.Ordering.{is_lt}
+use Rattle.std.specs.declared.cmp.Ordering.TheVariants.{Less}
 use Rattle.std.specs.Cmp.Lexicographic.{pointwise}
 use Rattle.arti_rows.specs.Key.{Key, key_cmp}
 use Rattle.arti_rows.specs.declared.rows.Digests.{Digests}
@@ -57,7 +58,11 @@ has_file items key = list_any (λ item. same_key item.key key && is_file item) i
 abbrev pub has_item : List Item → Key → Bool
 has_item items key = list_any (λ item. same_key item.key key) items
 
--- ---- changes
+-- ---- the default order
+
+-- each item stands before those behind it
+abbrev pub InDefaultOrder : List Item → Type 0
+InDefaultOrder items = AllPairs (λ a b. key_cmp a.key b.key ≡ Less) items
 
 -- the items with one more at its place in the default order, where it takes the place of one of its key
 abbrev pub put_item : Item → List Item → List Item

@@ -40,3 +40,10 @@ pub fn steps_answer_all()
     ensures { (limits : Limits) (moments : List ℤ) (r : Repository) (qs : List Whole) (ending : Ending)
         → AnswersAll limits moments r qs ending (run_bytes limits moments r qs ending) }
 {}
+
+ghost use Rattle.arti_model.specs.Store.{Item, InDefaultOrder, put_item};
+
+/// Items that stand in the default order do so when one is put among them.
+pub fn items_keep_their_order()
+    ensures { (new : Item) (items : List Item) → InDefaultOrder items → InDefaultOrder (put_item new items) }
+{}

@@ -1,0 +1,57 @@
+-- Items that are put among others keep the default order.
+use Rattle.std.proofs.Common.{◌≡◌, ℕ, ◌+◌, ◌<◌, ◌≤◌, zero, suc, Bool, true, false, cond, List, [], ◌∷◌, ◌++◌, length, get_or, refl, sym, ap, ◌∙◌, arith, Ordering, Less, Equal, Greater}
+use Rattle.std.specs.Prelude.{All, filter}
+use Rattle.std.specs.List.{AllPairs}
+use Rattle.std.specs.Ordering.{is_lt}
+use Rattle.std.specs.Cmp.{IsTotalOrder}
+use Rattle.std.proofs.lemmas.Cmp.{then_total, on_total, nat_list_cmp_total}
+use Rattle.std.proofs.lemmas.List.Elements.{All-cons, All-head, All-tail, All-nil, All-append, All-weaker}
+use Rattle.std.proofs.lemmas.List.Kept.{AllPairs-cons, AllPairs-filter}
+use Rattle.arti_rows.specs.Key.{Key, key_cmp}
+use Rattle.arti_model.specs.Store.{Item, InDefaultOrder, put_item}
+
+total : IsTotalOrder key_cmp
+total = then_total (on_total (λ (k : Key). k.repo) nat_list_cmp_total) (then_total (on_total (λ (k : Key). k.path) nat_list_cmp_total) (on_total (λ (k : Key). k.name) nat_list_cmp_total))
+
+abbrev Before : Item → Item → Type 0
+Before a b = key_cmp a.key b.key ≡ Less
+
+less_by : (o : Ordering) → is_lt o ≡ true → o ≡ Less
+less_by Less e = refl
+less_by Equal e = cc
+less_by Greater e = cc
+
+-- what a filter keeps passes its test
+kept_by : {X : Type 0} (b : Bool) (p : X → Bool) (P : X → Type 0) (x : X) (rest : List X) → p x ≡ b → (p x ≡ true → P x) → All P rest → All P (cond b (x ∷ rest) rest)
+kept_by true p P x rest e f more = All-cons P x rest (f e) more
+kept_by false p P x rest e f more = more
+
+kept_pass : {X : Type 0} (p : X → Bool) (P : X → Type 0) → ((x : X) → p x ≡ true → P x) → (xs : List X) → All P (filter p xs)
+kept_pass p P f [] = All-nil P
+kept_pass p P f (x ∷ xs) = kept_by (p x) p P x (filter p xs) refl (f x) (kept_pass p P f xs)
+
+module _ {X : Type 0} (R : X → X → Type 0) where
+  heads : (x : X) (xs : List X) → AllPairs R (x ∷ xs) → All (R x) xs
+  heads x xs p k d lt = p zero (suc k) d (omega arith) (omega arith)
+
+  tails : (x : X) (xs : List X) → AllPairs R (x ∷ xs) → AllPairs R xs
+  tails x xs p i j d lt within = p (suc i) (suc j) d (omega arith) (omega arith)
+
+  pairs_append : (xs ys : List X) → All (λ x. All (R x) ys) xs → AllPairs R xs → AllPairs R ys → AllPairs R (xs ++ ys)
+  pairs_append [] ys across p q = q
+  pairs_append (x ∷ xs) ys across p q =
+      AllPairs-cons R x (xs ++ ys) (All-append (R x) xs ys (heads x xs p) (All-head (λ y. All (R y) ys) x xs across))
+        (pairs_append xs ys (All-tail (λ y. All (R y) ys) x xs across) (tails x xs p) q)
+
+pub put_in_order : (new : Item) (items : List Item) → InDefaultOrder items → InDefaultOrder (put_item new items)
+put_in_order new items order =
+    let less : Item → Bool = λ item. is_lt (key_cmp item.key new.key) in
+    let more : Item → Bool = λ item. is_lt (key_cmp new.key item.key) in
+    let before : All (λ x. Before x new) (filter less items) = kept_pass less (λ x. Before x new) (λ x e. less_by (key_cmp x.key new.key) e) items in
+    let behind : All (λ y. Before new y) (filter more items) = kept_pass more (λ y. Before new y) (λ y e. less_by (key_cmp new.key y.key) e) items in
+    pairs_append Before (filter less items) (new ∷ filter more items)
+      (All-weaker (λ x. Before x new) (λ x. All (Before x) (new ∷ filter more items))
+        (λ x e. All-cons (Before x) new (filter more items) e (All-weaker (λ y. Before new y) (Before x) (λ y f. total.trans x.key new.key y.key e f) (filter more items) behind))
+        (filter less items) before)
+      (AllPairs-filter Before less items order)
+      (AllPairs-cons Before new (filter more items) behind (AllPairs-filter Before more items order))

@@ -1,0 +1,5 @@
+use Rattle.arti_model.proofs.Orders.{put_in_order}
+use Rattle.arti_model.proofs.items_keep_their_order.Goals as goal
+
+pub returns : goal.returns
+returns c = put_in_order
