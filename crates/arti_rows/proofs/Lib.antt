@@ -1,2 +1,4 @@
 mod Cuts
 mod Folders
+mod Chars
+mod PropTexts
