@@ -1,5 +1,5 @@
 -- Queries for items (after JFrog's Artifactory Query Language, in one form): which rows are selected, and the text that tells of them.
-use Rattle.std.specs.Prelude.{◌≡◌, ℕ, zero, suc, ◌+◌, ◌-◌, ℤ, Bool, true, false, not, ◌&&◌, ◌||◌, nat_le, nat_lt, nat_eq, ◌==◌, if◌then◌else◌, List, [], ◌∷◌, ◌++◌, length, map, filter, take, drop, take_while, flat_map, codes, decimal, Option, Some, None, option_map, is_some}
+use Rattle.std.specs.Prelude.{◌≡◌, ℕ, zero, suc, ◌+◌, ◌-◌, ℤ, Bool, true, false, ◌&&◌, nat_le, nat_lt, nat_eq, ◌==◌, if◌then◌else◌, List, [], ◌∷◌, ◌++◌, length, map, filter, take, drop, take_while, flat_map, codes, decimal, Option, Some, None, option_map, is_some}
 use Rattle.std.specs.List.{list_all, starts_with}
 use Rattle.std.specs.Cmp.Lexicographic.{pointwise}
 use Rattle.json.specs.Print.{quoted}
@@ -195,13 +195,17 @@ thin_key body =
     let key = thin_middle body in
     if is_thin_key key && pointwise nat_eq body (thin_body key) then Some key else None
 
--- whether these bytes, behind the front up to the key, go on to a key and what stands behind it
-abbrev pub goes_on : List ℕ → Bool
-goes_on bytes = let key = take_while is_repo_byte bytes in is_thin_key key && starts_with nat_eq behind_key (drop (length key) bytes)
+-- the characters of a key that stand in these bytes where the key does
+abbrev pub key_so_far : List ℕ → List ℕ
+key_so_far front = take_while is_repo_byte (drop 20 front)
+
+-- the key of a body that begins with these bytes: as far as it goes, and some letter where it hasn't begun
+abbrev pub key_to_be : List ℕ → List ℕ
+key_to_be front = if length (key_so_far front) == 0 then codes "a" else key_so_far front
 
 -- whether these bytes are the front of a body of that form
 abbrev pub is_thin_front : List ℕ → Bool
-is_thin_front front = starts_with nat_eq before_key front || (starts_with nat_eq front before_key && goes_on (drop 20 front))
+is_thin_front front = is_thin_key (key_to_be front) && starts_with nat_eq (thin_body (key_to_be front)) front
 
 -- the length of the longest of the fronts of a body, of at most n bytes, that is the front of a body of that form
 abbrev pub longest_front : ℕ → List ℕ → ℕ

@@ -1,12 +1,12 @@
 -- What a step is, case by case.
 use Rattle.std.proofs.Common.{◌≡◌, ℕ, ℤ, Bool, true, cond, List, length, ap, ◌∙◌}
-use Rattle.std.specs.Prelude.{Some, None, false, codes}
+use Rattle.std.specs.Prelude.{Some, None, false, codes, ◌&&◌}
 use Rattle.arti_rows.specs.Key.{Key}
 use Rattle.arti_rows.specs.declared.limits.Limits.{Limits}
 use Rattle.arti_model.specs.Bodies.{json_reply, deploy_body, deployed_body}
 use Rattle.arti_model.specs.Store.{Repository, File}
 use Rattle.arti_model.specs.Requests.{Whole}
-use Rattle.arti_model.specs.Step.{Answer, digests_of, can_deploy, with_file, new_file, anonymous, not_yet, head_not_yet, not_built, deploy, fetch, item_asked, has_method, step_on, step}
+use Rattle.arti_model.specs.Step.{Answer, is_plain, is_query, query, digests_of, can_deploy, with_file, new_file, anonymous, not_yet, head_not_yet, not_built, deploy, fetch, item_asked, has_method, step_on, step}
 
 module _ (limits : Limits) (r : Repository) (moment : ℤ) (key : Key) (content : List ℕ) (can : can_deploy limits r.items key ≡ true) where
   abbrev file : File
@@ -32,21 +32,29 @@ module _ (limits : Limits) (r : Repository) (q : Whole) (moment : ℤ) where
   not_built_by : (b : Bool) → has_method q.head (codes "HEAD") ≡ b → not_built q.head r ≡ cond b (head_not_yet r) (not_yet r)
   not_built_by b e = ap (λ (x : Bool). cond x (head_not_yet r) (not_yet r)) e
 
-  -- a request that names no item
-  none_built : item_asked q.head ≡ None → step limits r q moment ≡ not_built q.head r
+  -- a query
+  pub queries : (is_plain q.head && is_query q.head) ≡ true → step limits r q moment ≡ query limits r q.body
   unfolding step
-  none_built e = ap (step_on limits r q moment) e
+  queries e = ap (λ (b : Bool). cond b (query limits r q.body) (step_on limits r q moment (item_asked q.head))) e
 
-  pub names_none : item_asked q.head ≡ None → has_method q.head (codes "HEAD") ≡ false → step limits r q moment ≡ not_yet r
-  names_none e head = none_built e ∙ not_built_by false head
+  -- any other request
+  no_query : (is_plain q.head && is_query q.head) ≡ false → step limits r q moment ≡ step_on limits r q moment (item_asked q.head)
+  unfolding step
+  no_query e = ap (λ (b : Bool). cond b (query limits r q.body) (step_on limits r q moment (item_asked q.head))) e
 
-  pub head_names_none : item_asked q.head ≡ None → has_method q.head (codes "HEAD") ≡ true → step limits r q moment ≡ head_not_yet r
-  head_names_none e head = none_built e ∙ not_built_by true head
+  -- one that names no item
+  none_built : (is_plain q.head && is_query q.head) ≡ false → item_asked q.head ≡ None → step limits r q moment ≡ not_built q.head r
+  none_built other e = no_query other ∙ ap (step_on limits r q moment) e
 
-  module _ (key : Key) (e : item_asked q.head ≡ Some key) where
+  pub names_none : (is_plain q.head && is_query q.head) ≡ false → item_asked q.head ≡ None → has_method q.head (codes "HEAD") ≡ false → step limits r q moment ≡ not_yet r
+  names_none other e head = none_built other e ∙ not_built_by false head
+
+  pub head_names_none : (is_plain q.head && is_query q.head) ≡ false → item_asked q.head ≡ None → has_method q.head (codes "HEAD") ≡ true → step limits r q moment ≡ head_not_yet r
+  head_names_none other e head = none_built other e ∙ not_built_by true head
+
+  module _ (key : Key) (e : item_asked q.head ≡ Some key) (other : (is_plain q.head && is_query q.head) ≡ false) where
     by_method : step limits r q moment ≡ cond (has_method q.head (codes "PUT")) (deploy limits r moment key q.body) (cond (has_method q.head (codes "GET")) (fetch r key) (not_built q.head r))
-    unfolding step
-    by_method = ap (step_on limits r q moment) e
+    by_method = no_query other ∙ ap (step_on limits r q moment) e
 
     -- a deploy
     pub puts : has_method q.head (codes "PUT") ≡ true → step limits r q moment ≡ deploy limits r moment key q.body

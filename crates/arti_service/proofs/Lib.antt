@@ -2,3 +2,8 @@ mod Deploys
 mod Pieces
 mod Talks
 mod Stops
+mod Places
+mod Puts
+mod Thin
+mod Asking
+mod Memory

@@ -13,7 +13,8 @@ use Rattle.arti_service.specs.declared.answering.Stop.{Stop}
 use Rattle.arti_service.specs.declared.answering.Stop.TheVariants as stop
 use Rattle.arti_service.specs.declared.conversation.Ending.{Ending}
 use Rattle.arti_service.specs.declared.conversation.Ending.TheVariants as ending
-use Rattle.arti_service.specs.Cuts.{Standing, AnswersFirst, AnswersSome, none, more, NextReply, to_request, to_bad, TellsFront, StopsSo, Stops, StopsInOne, StopsBad, StoppedAt, StopsTelling}
+use Rattle.arti_service.specs.Cuts.{Standing, AnswersFirst, AnswersSome, none, more, NextReply, to_request, to_bad, TellsFront, StopsSo, Stops, StopsInOne, StopsBad, StoppedAt, StoppedIn, StopsTelling}
+use Rattle.arti_service.specs.Asks.{Tells}
 
 -- in a request whose head has come
 pub in_one : (limits : Limits) (most : ℕ) (moments : List ℤ) (r r' : Repository) (input : List ℕ) (head : Request) (n : ℕ) (rest told told' : List ℕ) (e : Ending)
@@ -28,9 +29,10 @@ in_one limits most moments r r' input head n rest told told' ending.Tell some be
     let a : Standing = record { most = most; moments = moments; repository = r; input = input } in
     let q : Whole = record { head = head; body = s.body } in
     let answer = step limits r q (first_of moments) in
+    let reply = s.stopped.0 in
     let at_body : Begins limits.content input (Head head (length s.body) (s.body ++ s.rest)) =
     subst (λ (l : List ℕ). Begins limits.content input (Head head (length s.body) l)) s.input_is (subst (λ (k : ℕ). Begins limits.content input (Head head k rest)) (sym s.long) begins) in
-    (answer.reply, subst (λ (x : Repository). NextReply limits a answer.reply x) (sym s.stopped.1) (to_request q s.rest some at_body), s.stopped.0)
+    (reply, subst (λ (x : Repository). NextReply limits a reply x) (sym s.stopped.3) (to_request q s.rest reply some at_body s.stopped.1), s.stopped.2)
 in_one limits most moments r r' input head n rest told told' ending.Source some begins s = s
 in_one limits most moments r r' input head n rest told told' ending.Memory some begins s = s
 
@@ -101,3 +103,29 @@ unchanged_stops (Err s) answer reply told told' r is same stops = unchanged_stop
 pub on_ok : (result : Result (Unit {0}) Stop) (A : Type 0) → A → OnOk result A
 on_ok (Ok x) A a = a
 on_ok (Err s) A a = tt
+
+-- ---- replies of which there may be two
+
+-- the one reply that there is
+pub stopped_in : (result : Result (Unit {0}) Stop) (IsOne : List ℕ → Type 0) (answer : Answer) (told told' : List ℕ) (r after : Repository) → IsOne answer.reply
+    → IfErr result (λ s. StoppedAt s answer told told' r after) → IfErr result (λ s. StoppedIn s IsOne answer.repository told told' r after)
+stopped_in (Ok x) IsOne answer told told' r after one stops = tt
+stopped_in (Err stop.Disk) IsOne answer told told' r after one stops = stops
+stopped_in (Err stop.Tell) IsOne answer told told' r after one stops = (answer.reply, one, stops.0, stops.1)
+stopped_in (Err stop.Memory) IsOne answer told told' r after one stops = stops
+
+-- the same of more replies, and of a repository that is the same
+pub stopped_more : (result : Result (Unit {0}) Stop) (P Q : List ℕ → Type 0) (next next' : Repository) (told told' : List ℕ) (r after : Repository) → ((reply : List ℕ) → P reply → Q reply) → next ≡ next'
+    → IfErr result (λ s. StoppedIn s P next told told' r after) → IfErr result (λ s. StoppedIn s Q next' told told' r after)
+stopped_more (Ok x) P Q next next' told told' r after wider same stops = tt
+stopped_more (Err stop.Disk) P Q next next' told told' r after wider same stops = stops
+stopped_more (Err stop.Tell) P Q next next' told told' r after wider same stops = (stops.0, wider stops.0 stops.1, stops.2, stops.3 ∙ same)
+stopped_more (Err stop.Memory) P Q next next' told told' r after wider same stops = stops
+
+pub tells_in : (result : Result (Unit {0}) Stop) (IsOne : List ℕ → Type 0) (reply told told' : List ℕ) → IsOne reply → OnOk result (told' ≡ told ++ reply) → OnOk result (Tells IsOne told told')
+tells_in (Ok x) IsOne reply told told' one is = (reply, one, is)
+tells_in (Err s) IsOne reply told told' one is = tt
+
+pub tells_more : (result : Result (Unit {0}) Stop) (P Q : List ℕ → Type 0) (told told' : List ℕ) → ((reply : List ℕ) → P reply → Q reply) → OnOk result (Tells P told told') → OnOk result (Tells Q told told')
+tells_more (Ok x) P Q told told' wider tells = (tells.0, wider tells.0 tells.1, tells.2)
+tells_more (Err s) P Q told told' wider tells = tt

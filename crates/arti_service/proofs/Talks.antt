@@ -51,7 +51,7 @@ module _ (limits : Limits) (most : ℕ) (moments : List ℤ) (r : Repository) (i
       q = record { head = head; body = one.body }
 
       abbrev reply : List ℕ
-      reply = (step limits r q (first_of moments)).reply
+      reply = one.reply
 
       at_body : Begins limits.content input (Head head (length one.body) (one.body ++ input'))
       at_body = subst (λ (l : List ℕ). Begins limits.content input (Head head (length one.body) l)) one.input_is (subst (λ (k : ℕ). Begins limits.content input (Head head k rest)) (sym one.long) begins)
@@ -62,7 +62,7 @@ module _ (limits : Limits) (most : ℕ) (moments : List ℤ) (r : Repository) (i
         record {
           requests = q ∷ [];
           reads = (input', some, at_body, ends_by head.last (RequestBytes limits.content (most - 1) input' [] model.End) last);
-          answers = (reply, [], refl, inl refl, refl);
+          answers = (reply, [], refl, one.replies, refl);
           leaves = one.store_is;
         },
         one.told_is ∙ ap (λ (l : List ℕ). told ++ l) (sym (append-nil reply)),
@@ -78,7 +78,7 @@ module _ (limits : Limits) (most : ℕ) (moments : List ℤ) (r : Repository) (i
             some = some;
             begins = at_body;
             goes_on = last;
-            replies = inl refl;
+            replies = one.replies;
             most = refl;
             moments = one.clock_is;
             repository = one.store_is;
@@ -92,7 +92,7 @@ module _ (limits : Limits) (most : ℕ) (moments : List ℤ) (r : Repository) (i
               record {
                 requests = q ∷ later.requests;
                 reads = (input', some, at_body, goes_by head.last ((later.requests ≡ []) × (e ≡ model.End)) (RequestBytes limits.content (most - 1) input' later.requests e) last later.reads);
-                answers = (reply, bytes, refl, inl refl, later.answers);
+                answers = (reply, bytes, refl, one.replies, later.answers);
                 leaves = later.leaves;
               },
               ap (λ (l : List ℕ). l ++ bytes) one.told_is ∙ append_assoc told reply bytes,

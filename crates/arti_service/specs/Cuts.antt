@@ -36,8 +36,8 @@ pub data AnswersSome (limits : Limits) : Standing → List ℕ → Standing → 
 
 -- what would be told next, and the repository then: the reply to a whole request, or to bytes that are none
 pub data NextReply (limits : Limits) (a : Standing) : List ℕ → Repository → Type 0 where
-  to_request : (q : Whole) (rest : List ℕ) → 0 < a.most → Begins limits.content a.input (Head q.head (length q.body) (q.body ++ rest))
-      → NextReply limits a (step limits a.repository q (first_of a.moments)).reply (step limits a.repository q (first_of a.moments)).repository
+  to_request : (q : Whole) (rest reply : List ℕ) → 0 < a.most → Begins limits.content a.input (Head q.head (length q.body) (q.body ++ rest))
+      → IsReply limits a.repository q (first_of a.moments) reply → NextReply limits a reply (step limits a.repository q (first_of a.moments)).repository
   to_bad : (why : Why) → 0 < a.most → Begins limits.content a.input (AtBad why) → NextReply limits a (error_reply why) a.repository
 
 -- the first bytes of a reply were told
@@ -74,13 +74,19 @@ StoppedAt stop.Disk answer told told' r after = ⊥
 StoppedAt stop.Tell answer told told' r after = TellsFront answer.reply told told' × (after ≡ answer.repository)
 StoppedAt stop.Memory answer told told' r after = (told' ≡ told) × (after ≡ r)
 
+-- the same where the reply is one of these, and the repository behind it that one
+abbrev pub StoppedIn : Stop → (List ℕ → Type 0) → Repository → List ℕ → List ℕ → Repository → Repository → Type 0
+StoppedIn stop.Disk IsOne next told told' r after = ⊥
+StoppedIn stop.Tell IsOne next told told' r after = (reply : List ℕ) × IsOne reply × TellsFront reply told told' × (after ≡ next)
+StoppedIn stop.Memory IsOne next told told' r after = (told' ≡ told) × (after ≡ r)
+
 -- the request of a head was read whole, n bytes of the input being its body, and some of its reply was told
 pub record TellsSomeOfOne (limits : Limits) (moments : List ℤ) (r r' : Repository) (head : Request) (n : ℕ) (input told told' : List ℕ) : Type 0 where
   pub body : List ℕ
   pub rest : List ℕ
   pub long : length body ≡ n
   pub input_is : input ≡ body ++ rest
-  pub stopped : StoppedAt stop.Tell (step limits r (record { head = head; body = body }) (first_of moments)) told told' r r'
+  pub stopped : StoppedIn stop.Tell (IsReply limits r (record { head = head; body = body }) (first_of moments)) (step limits r (record { head = head; body = body }) (first_of moments)).repository told told' r r'
 
 -- a fault or want of memory while that request was read and answered
 abbrev pub StopsInOne : Ending → Limits → List ℤ → Repository → Repository → Request → ℕ → List ℕ → List ℕ → List ℕ → Type 0

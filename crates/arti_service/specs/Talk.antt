@@ -4,7 +4,7 @@ use Rattle.arti_rows.specs.declared.limits.Limits.{Limits}
 use Rattle.arti_model.specs.Requests as model
 use Rattle.arti_model.specs.Requests.{Whole, RequestBytes}
 use Rattle.arti_model.specs.Store.{Repository}
-use Rattle.arti_model.specs.Run.{first_of, AnswersAll, repository_after}
+use Rattle.arti_model.specs.Run.{first_of, IsReply, AnswersAll, repository_after}
 use Rattle.arti_model.specs.Step.{step}
 use Rattle.arti_service.specs.Cuts.{AnswersFirst}
 use Rattle.arti_service.specs.declared.conversation.Ending.{Ending}
@@ -46,7 +46,9 @@ pub record AnswersOne (limits : Limits) (moments moments' : List ℤ) (r r' : Re
   pub body : List ℕ
   pub long : length body ≡ n
   pub input_is : input ≡ body ++ input'
-  pub told_is : told' ≡ told ++ (step limits r (record { head = head; body = body }) (first_of moments)).reply
+  pub reply : List ℕ
+  pub replies : IsReply limits r (record { head = head; body = body }) (first_of moments) reply
+  pub told_is : told' ≡ told ++ reply
   pub store_is : r' ≡ (step limits r (record { head = head; body = body }) (first_of moments)).repository
   pub clock_is : moments' ≡ drop 1 moments
 

@@ -1,12 +1,14 @@
 // One request is answered.
 ghost use Rattle.std.specs.Prelude.{◌≡◌, ◌≢◌, ◌++◌, OnOk, IfOk, IfErr, IsErrOf, Err, Some};
 ghost use Rattle.arti_ground.specs.State.{LeavesDisk, Rose};
-ghost use Rattle.arti_model.specs.Step.{step, deploy, fetch, not_yet, head_not_yet, item_asked};
+ghost use Rattle.std.specs.Prelude.{◌&&◌, false};
+ghost use Rattle.arti_model.specs.Step.{step, deploy, fetch, not_yet, head_not_yet, item_asked, is_plain, is_query};
 ghost use Rattle.arti_service.specs.Cuts.{StoppedAt, StopsTelling};
 
-use crate::ask::{has_method, item_asked};
-use crate::replies;
+use crate::ask::{has_method, is_query, item_asked};
+use crate::queries::MEMORY_REPLY;
 use crate::store::Store;
+use crate::{queries, replies};
 use arti_ground::{Failed, Ground};
 use arti_rows::{ItemKey, Limits, Moment};
 use arti_wire::Request;
@@ -151,22 +153,68 @@ fn answer_fetch<G: Ground>(
 }
 
 ghost use Rattle.arti_model.specs.Store.{Repository};
-ghost use Rattle.arti_service.specs.Asks.{MeansFor, answer_to};
+ghost use Rattle.arti_model.specs.Step.{query};
+ghost use Rattle.arti_model.specs.Run.{IsReply, memory_reply};
+ghost use Rattle.arti_service.specs.Asks.{MeansFor, MayReply, Tells, answer_to};
+ghost use Rattle.arti_service.specs.Cuts.{StoppedIn};
 
 /// What a request asks.
 #[derive(Drop)]
 pub enum Asked {
     Deploy(ItemKey),
     Fetch(ItemKey),
+    Query,
     NotBuilt,
     /// The same by HEAD.
     HeadNotBuilt,
+}
+
+// Tells that a request that only reads found too little memory.
+fn tell_memory<G: Ground>(ground: &mut G, line: u32) -> Result<(), Stop>
+    ensures told { G.tells → OnOk result ((G.state ground.new).told line ≡ (G.state ground.old).told line ++ memory_reply) }
+    ensures stops { G.tells → IfErr result (λ stop. StopsTelling stop memory_reply ((G.state ground.old).told line) ((G.state ground.new).told line)) }
+    ensures tell_fault { IsErrOf result Stop.Tell → Rose (G.tell_faults ground.old line) (G.tell_faults ground.new line) }
+    ensures quiet { result ≢ Err Stop.Tell → G.tell_faults ground.new ≡ G.tell_faults ground.old }
+    ensures no_disk { result ≢ Err Stop.Disk }
+    ensures disk_faults { G.disk_faults ground.new ≡ G.disk_faults ground.old }
+    ensures disk { G.tells → LeavesDisk (G.state ground.old) (G.state ground.new) }
+{
+    match ground.tell(line, &MEMORY_REPLY) {
+        Err(Failed) => Err(Stop::Tell),
+        Ok(()) => Ok(()),
+    }
+}
+
+// Tells the reply to a query.
+fn answer_query<G: Ground>(
+    alloc: Global,
+    store: &Store,
+    ground: &mut G,
+    line: u32,
+    limits: &Limits,
+    body: &[u8],
+) -> Result<(), Stop>
+    ensures told { G.tells → OnOk result (Tells (MayReply Asked.Query (query limits.now store.now body.now)) ((G.state ground.old).told line) ((G.state ground.new).told line)) }
+    ensures stops { G.tells → IfErr result (λ stop. StoppedIn stop (MayReply Asked.Query (query limits.now store.now body.now)) store.now ((G.state ground.old).told line) ((G.state ground.new).told line) store.now store.now) }
+    ensures tell_fault { IsErrOf result Stop.Tell → Rose (G.tell_faults ground.old line) (G.tell_faults ground.new line) }
+    ensures quiet { result ≢ Err Stop.Tell → G.tell_faults ground.new ≡ G.tell_faults ground.old }
+    ensures no_disk { result ≢ Err Stop.Disk }
+    ensures disk_faults { G.disk_faults ground.new ≡ G.disk_faults ground.old }
+    ensures disk { G.tells → LeavesDisk (G.state ground.old) (G.state ground.new) }
+{
+    match queries::reply(alloc, store, limits, body) {
+        Ok(reply) => tell_parts(ground, line, &reply.head, &reply.body),
+        Err(AllocError) => tell_memory(ground, line),
+    }
 }
 
 // What a request asks.
 fn ask_of(alloc: Global, request: &Request) -> Result<Asked, AllocError>
     ensures { IfOk result (MeansFor request.now) }
 {
+    if is_query(request) {
+        return Ok(Asked::Query);
+    }
     match item_asked(alloc, request)? {
         None => {
             if has_method(request, "HEAD") {
@@ -180,7 +228,8 @@ fn ask_of(alloc: Global, request: &Request) -> Result<Asked, AllocError>
 
 // What a request asks that names an item.
 fn ask_on(request: &Request, key: ItemKey) -> Result<Asked, AllocError>
-    requires { item_asked request.now ≡ Some key }
+    requires item { item_asked request.now ≡ Some key }
+    requires no_query { (is_plain request.now && is_query request.now) ≡ false }
     ensures { IfOk result (MeansFor request.now) }
 {
     if has_method(request, "PUT") {
@@ -206,9 +255,9 @@ fn answer_asked<G: Ground>(
     body: Vec<u8>,
     moment: Moment,
 ) -> Result<(), Stop>
-    ensures told { G.tells → OnOk result ((G.state ground.new).told line ≡ (G.state ground.old).told line ++ (answer_to asked limits.now store.old body.items moment).reply) }
+    ensures told { G.tells → OnOk result (Tells (MayReply asked (answer_to asked limits.now store.old body.items moment)) ((G.state ground.old).told line) ((G.state ground.new).told line)) }
     ensures repository { OnOk result (store.new ≡ (answer_to asked limits.now store.old body.items moment).repository) }
-    ensures stops { G.tells → IfErr result (λ stop. StoppedAt stop (answer_to asked limits.now store.old body.items moment) ((G.state ground.old).told line) ((G.state ground.new).told line) store.old store.new) }
+    ensures stops { G.tells → IfErr result (λ stop. StoppedIn stop (MayReply asked (answer_to asked limits.now store.old body.items moment)) (answer_to asked limits.now store.old body.items moment).repository ((G.state ground.old).told line) ((G.state ground.new).told line) store.old store.new) }
     ensures tell_fault { IsErrOf result Stop.Tell → Rose (G.tell_faults ground.old line) (G.tell_faults ground.new line) }
     ensures quiet { result ≢ Err Stop.Tell → G.tell_faults ground.new ≡ G.tell_faults ground.old }
     ensures no_disk { result ≢ Err Stop.Disk }
@@ -220,6 +269,7 @@ fn answer_asked<G: Ground>(
             answer_deploy(alloc, store, ground, line, limits, moment, key, body)
         }
         Asked::Fetch(key) => answer_fetch(alloc, store, ground, line, &key),
+        Asked::Query => answer_query(alloc, store, ground, line, limits, &body),
         Asked::NotBuilt => answer_not_yet(alloc, ground, line),
         Asked::HeadNotBuilt => answer_head_not_yet(alloc, ground, line),
     }
@@ -236,10 +286,9 @@ pub fn answer<G: Ground>(
     body: Vec<u8>,
     moment: Moment,
 ) -> Result<(), Stop>
-    ensures told { G.tells → OnOk result ((G.state ground.new).told line ≡ (G.state ground.old).told line
-        ++ (step limits.now store.old (record { head = request.now; body = body.items }) moment).reply) }
+    ensures told { G.tells → OnOk result (Tells (IsReply limits.now store.old (record { head = request.now; body = body.items }) moment) ((G.state ground.old).told line) ((G.state ground.new).told line)) }
     ensures repository { OnOk result (store.new ≡ (step limits.now store.old (record { head = request.now; body = body.items }) moment).repository) }
-    ensures stops { G.tells → IfErr result (λ stop. StoppedAt stop (step limits.now store.old (record { head = request.now; body = body.items }) moment) ((G.state ground.old).told line) ((G.state ground.new).told line) store.old store.new) }
+    ensures stops { G.tells → IfErr result (λ stop. StoppedIn stop (IsReply limits.now store.old (record { head = request.now; body = body.items }) moment) (step limits.now store.old (record { head = request.now; body = body.items }) moment).repository ((G.state ground.old).told line) ((G.state ground.new).told line) store.old store.new) }
     ensures tell_fault { IsErrOf result Stop.Tell → Rose (G.tell_faults ground.old line) (G.tell_faults ground.new line) }
     ensures quiet { result ≢ Err Stop.Tell → G.tell_faults ground.new ≡ G.tell_faults ground.old }
     ensures no_disk { result ≢ Err Stop.Disk }

@@ -2,7 +2,7 @@
 ghost use Rattle.std.specs.Prelude.{◌≡◌, ◌&&◌, ◌||◌, nat_eq, IfOk, IsTrue, codes, length, drop, Some, None};
 ghost use Rattle.std.specs.List.{list_any, list_all, starts_with};
 ghost use Rattle.std.specs.Cmp.Lexicographic.{pointwise};
-ghost use Rattle.arti_model.specs.Step.{has_field, unbuilt_fields, is_plain, local_key, local_front, is_target_byte, is_plain_path, target_item, item_asked, has_method};
+ghost use Rattle.arti_model.specs.Step.{has_field, unbuilt_fields, is_plain, local_key, local_front, is_target_byte, is_plain_path, target_item, item_asked, has_method, is_query};
 ghost use Rattle.std.specs.Str.{str_eq_ignore_ascii_case};
 ghost use Rattle.arti_wire.specs.Fields.{texts_of};
 
@@ -11,6 +11,8 @@ use arti_wire::{Field, Request};
 use std::alloc::{AllocError, Global};
 
 const LOCAL: &str = "generic-local";
+
+const QUERY_TARGET: &str = "/api/search/aql";
 
 const LOCAL_FRONT: &str = "/generic-local/";
 
@@ -93,6 +95,15 @@ fn path_item(alloc: Global, path: &str) -> Result<Option<ItemKey>, AllocError>
         Err(KeyFault::Memory) => Err(AllocError),
         Err(_) => Ok(None),
     }
+}
+
+/// Whether it is a query that is built.
+pub fn is_query(request: &Request) -> bool
+    ensures { result ≡ (is_plain request.now && is_query request.now) }
+{
+    !has_unbuilt_field(request.fields.as_slice())
+        && has_method(request, "POST")
+        && request.target.as_str() == QUERY_TARGET
 }
 
 /// The item that a request names, where it is a request that is built.

@@ -4,6 +4,7 @@
 mod answering;
 mod ask;
 mod conversation;
+mod queries;
 mod replies;
 mod store;
 mod stored;

@@ -5,11 +5,16 @@ ghost use Rattle.std.specs.Option.{option_copied};
 ghost use Rattle.arti_model.specs.Store.{opening, find_item, has_item, has_file};
 ghost use Rattle.arti_model.specs.Step.{deploy, fetch, fetched, can_deploy, missing_folders, with_file, new_file, anonymous, digests_of};
 ghost use Rattle.arti_model.specs.Bodies.{content_reply};
-ghost use Rattle.arti_service.specs.Items.{items_of};
+ghost use Rattle.std.specs.Prelude.{All, map};
+ghost use Rattle.arti_model.specs.Query.{Facts, facts_of, all_in, page};
+ghost use Rattle.arti_aql_reply.specs.Rows.{facts_of_rows};
+ghost use Rattle.arti_service.specs.Items.{items_of, Measures, IsStore, with_rows};
 
 use crate::replies;
-use crate::stored::{Stored, find, has_file_among, has_item, missing, new_file, new_folders};
-use arti_rows::{Digests, ItemKey, Limits, Moment, Text};
+use crate::stored::{
+    Stored, files_in, find, has_file_among, has_item, missing, new_file, new_folders, put_all,
+};
+use arti_rows::{Digests, ItemKey, ItemRow, Limits, Moment, Text};
 use md5::{Digest as MdDigest, Md5};
 use sha1::Sha1;
 use sha2::{Digest, Sha256};
@@ -30,6 +35,10 @@ impl Model for Store {
     ghost use Rattle.arti_service.specs.Items.{items_of};
 
     ghost view = { λ s. record { items = items_of s.items.items } };
+
+    ghost use Rattle.arti_service.specs.Items.{IsStore};
+
+    ghost invariant = { λ s. IsStore s.items.items };
 }
 
 /// The three digests of a content.
@@ -72,7 +81,8 @@ fn deploy_rows(
     content: Vec<u8>,
 ) -> Result<(Vec<Stored>, Vec<u8>), AllocError>
     requires { missing.now ≡ missing_folders (items_of items.now) key }
-    ensures rows { IfOk result (λ r. items_of items.now ++ items_of r.0.items ≡ with_file (items_of items.now) moment user.now key (record { content = content.items; digests = digests_of content.items })) }
+    ensures rows { IfOk result (λ r. with_rows r.0.items items.now ≡ with_file (items_of items.now) moment user.now key (record { content = content.items; digests = digests_of content.items })) }
+    ensures measures { IfOk result (λ r. All Measures r.0.items) }
     ensures reply { IfOk result (λ r. r.1.items ≡ json_reply 201 (deployed_body key moment user.now (length content.items) (digests_of content.items))) }
 {
     let digests = digests(&content);
@@ -103,9 +113,11 @@ fn deploy_into(
     key: ItemKey,
     content: Vec<u8>,
 ) -> Result<Vec<u8>, AllocError>
+    requires store { IsStore items.old.items }
     ensures reply { IfOk result (λ v. v.items ≡ (deploy limits.now (record { items = items_of items.old.items }) moment key content.items).reply) }
     ensures items { OnOk result (items_of items.new.items ≡ (deploy limits.now (record { items = items_of items.old.items }) moment key content.items).repository.items) }
     ensures err { OnErr result (items_of items.new.items ≡ items_of items.old.items) }
+    ensures store { IsStore items.new.items }
 {
     let folders = key.folders(alloc)?;
     let missing = missing(alloc, items, &folders)?;
@@ -113,8 +125,9 @@ fn deploy_into(
         return replies::refusal(alloc, 501, "NotYet");
     }
     let user = Text::from_str(alloc, "anonymous")?;
-    let (mut rows, reply) = deploy_rows(alloc, items, moment, &user, key, &missing, content)?;
-    items.append(&mut rows)?;
+    let (rows, reply) = deploy_rows(alloc, items, moment, &user, key, &missing, content)?;
+    items.reserve(rows.len())?;
+    put_all(items, rows);
     Ok(reply)
 }
 
@@ -173,5 +186,12 @@ impl Store {
         ensures some { IfSome result (λ f. (fetch self.now key.now).reply ≡ content_reply (record { content = f.content.now; digests = f.digests })) }
     {
         file_among(&self.items, key)
+    }
+
+    /// The rows of the files of a repository, in the default order.
+    pub fn files_in(&self, alloc: Global, repo: &str) -> Result<Vec<&ItemRow>, AllocError>
+        ensures { IfOk result (λ v. facts_of_rows v.items ≡ map facts_of (page (all_in repo.now) self.now)) }
+    {
+        files_in(alloc, &self.items, repo)
     }
 }
