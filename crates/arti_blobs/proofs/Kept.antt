@@ -1,10 +1,11 @@
 -- What is kept of references that are read in order.
-use Rattle.std.proofs.Common.{◌≡◌, inl, inr, ℕ, ◌+◌, ◌<◌, ◌≤◌, List, [], ◌∷◌, ◌++◌, length, get_or, drop, refl, ◌∙◌, ap, subst, arith}
+use Rattle.std.proofs.Common.{◌≡◌, inl, inr, ℕ, ◌+◌, ◌^◌, ◌<◌, ◌≤◌, List, [], ◌∷◌, ◌++◌, length, get_or, drop, refl, sym, ◌∙◌, ap, subst, arith}
 use Rattle.std.specs.Prelude.{All, Contains}
 use Rattle.std.proofs.lemmas.List.{drop_more, drop_all}
 use Rattle.std.proofs.lemmas.List.Elements.{All-nil, All-push, All-weaker}
 use Rattle.std.proofs.lemmas.List.Sums.{sum_by_push}
 use Rattle.arti_rows.specs.declared.rows.FileRef.{FileRef}
+use Rattle.arti_blobs.specs.Chains.{FollowsNot}
 use Rattle.arti_blobs.specs.Contents.{end_of, Keeps}
 
 pub end_push : (kept : List FileRef) (file : FileRef) → end_of (kept ++ file ∷ []) ≡ end_of kept + file.len
@@ -60,6 +61,22 @@ module _ (files : List FileRef) (i : ℕ) (file : FileRef) (index : List FileRef
               (omega (arith, new.0, indexed.end_is));
           rule = λ others its. (keeps_new index file (drop (i + 1) files) others is_not (at_file others its)).1;
         }
+
+  -- a new one that begins where the others end
+  pub read_placed : (Contains index file → ⊥) → file.place ≡ end → IsIndexed files (i + 1) (index ++ file ∷ []) (end + file.len)
+  read_placed is_not at = record {
+    end_is = omega (arith, end_push index file, indexed.end_is);
+    within = All-push (λ (f : FileRef). f.place + f.len ≤ end + file.len) index file
+        (All-weaker (λ (f : FileRef). f.place + f.len ≤ end) (λ (f : FileRef). f.place + f.len ≤ end + file.len) (λ f le. omega arith) index indexed.within)
+        (omega (arith, at));
+    rule = λ others its. (keeps_new index file (drop (i + 1) files) others is_not (at_file others its)).1;
+  }
+
+  -- one that is neither kept nor begins there, or would end too far, is in no list of kept ones
+  pub follows_not : FollowsNot index end file → (all : List FileRef) → Keeps [] files all → end_of all ≤ 2 ^ 62 → ⊥
+  follows_not not all keeps short =
+      let new = keeps_new index file (drop (i + 1) files) all not.0 (at_file all keeps) in
+      not.1 (new.0 ∙ sym indexed.end_is) (omega (arith, keeps_grow (drop (i + 1) files) (index ++ file ∷ []) all new.1, end_push index file, indexed.end_is, short))
 
 -- none was read
 pub read_none : (files : List FileRef) → IsIndexed files 0 [] 0

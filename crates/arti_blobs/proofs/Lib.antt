@@ -4,3 +4,5 @@ mod Fronts
 mod Blocks
 mod Kept
 mod Pairs
+mod Earlier
+mod Checked

@@ -1,10 +1,11 @@
 -- How the kept contents of one SHA-256 are found, each from the next one that was kept.
-use Rattle.std.specs.Prelude.{◌≡◌, ℕ, ◌+◌, ◌<◌, List, [], length, slice_index_or, Option, None, Some, IfSome}
+use Rattle.std.specs.Prelude.{◌≡◌, ◌⊎◌, ℕ, ◌+◌, ◌^◌, ◌<◌, ◌≤◌, List, [], ◌∷◌, ◌++◌, length, slice_index_or, Option, None, Some, IfSome, Contains}
 use Rattle.std.specs.Ordering.{nat_cmp}
 use Rattle.std.specs.Cmp.Lexicographic.{slice_cmp}
 use Rattle.std.specs.BTreeMap as tree
 use Rattle.std.specs.BTreeMap.{BTreeMap}
 use Rattle.arti_rows.specs.declared.rows.FileRef.{FileRef}
+use Rattle.arti_blobs.specs.Contents.{IsSame}
 
 -- stands for a reference past the end
 abbrev pub no_file : FileRef
@@ -29,3 +30,19 @@ pub record Chained (kept : List FileRef) (older : List (Option ℕ)) (newest : B
   pub long : length older ≡ length kept
   pub each : (i : ℕ) → i < length kept → IsLast kept (sha256_at kept i) i (slice_index_or older i None)
   pub last : (sha256 : List ℕ) → IsLast kept sha256 (length kept) (tree.get (slice_cmp nat_cmp) newest sha256)
+
+-- one before it has the same bytes and the same digests
+pub record HasEarlier (bytes : List ℕ) (kept : List FileRef) (at : ℕ) : Type 0 where
+  pub earlier : ℕ
+  pub before : earlier < at
+  pub same : IsSame bytes (slice_index_or kept at no_file) (slice_index_or kept earlier no_file)
+
+-- a reference is kept already, or it begins where the kept contents end and is one more; they end here then
+abbrev pub Adds : List FileRef → ℕ → FileRef → List FileRef → ℕ → Type 0
+Adds kept end file next new_end =
+    (Contains kept file × (next ≡ kept) × (new_end ≡ end))
+    ⊎ (¬ Contains kept file × (file.place ≡ end) × (end + file.len ≤ 2 ^ 62) × (next ≡ kept ++ file ∷ []) × (new_end ≡ end + file.len))
+
+-- it is neither, or the contents would end past 2^62
+abbrev pub FollowsNot : List FileRef → ℕ → FileRef → Type 0
+FollowsNot kept end file = ¬ Contains kept file × (file.place ≡ end → end + file.len ≤ 2 ^ 62 → ⊥)

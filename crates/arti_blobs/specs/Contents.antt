@@ -1,5 +1,5 @@
 -- Contents in a file of a ground: the kept ones one after the other from its beginning on, and behind them what is staged.
-use Rattle.std.specs.Prelude.{◌≡◌, ◌⊎◌, ℕ, ◌+◌, ◌≤◌, List, [], ◌∷◌, ◌++◌, length, take, drop, sum_by, Contains, Option, None, Some, IsSomeAnd, if◌then◌else◌}
+use Rattle.std.specs.Prelude.{◌≡◌, ◌⊎◌, ℕ, ◌+◌, ◌≤◌, List, [], ◌∷◌, ◌++◌, length, take, drop, sum_by, AllPairs, Contains, Option, None, Some, IsSomeAnd, if◌then◌else◌}
 use Rattle.arti_rows.specs.declared.rows.Digests.{Digests}
 use Rattle.arti_rows.specs.declared.rows.FileRef.{FileRef}
 use Rattle.arti_ground.specs.State.{Bytes, State, In}
@@ -31,6 +31,10 @@ pub record IsSame (bytes : List ℕ) (wanted file : FileRef) : Type 0 where
   pub same_length : file.len ≡ wanted.len
   pub same_digests : file.digests ≡ wanted.digests
   pub same_bytes : content bytes file ≡ content bytes wanted
+
+-- no two contents have the same bytes and the same digests
+abbrev pub AllDiffer : List ℕ → List FileRef → Type 0
+AllDiffer bytes kept = AllPairs (λ file other. ¬ IsSame bytes other file) kept
 
 -- a kept content has these bytes and these digests
 pub record HasPair (bytes : List ℕ) (kept : List FileRef) (wanted : List ℕ) (digests : Digests) : Type 0 where

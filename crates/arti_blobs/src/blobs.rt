@@ -1,11 +1,12 @@
 // Contents, each kept once.
-ghost use Rattle.std.specs.Prelude.{◌≡◌, ◌≢◌, ◌↔◌, ◌+◌, ◌^◌, ◌<◌, ◌≤◌, ℕ, false, List, [], ◌++◌, length, take, All, Contains, Err, None, IsTrue, IsSome, IfOk, OnOk, OnErr, IsErrOf};
+ghost use Rattle.std.specs.Prelude.{◌≡◌, ◌≢◌, ◌↔◌, ◌+◌, ◌^◌, ◌<◌, ◌≤◌, ℕ, false, List, [], ◌++◌, length, take, All, Contains, Err, None, IsTrue, IsSome, IfOk, OnOk, OnErr, IsErrOf, IfSome};
 ghost use Rattle.arti_rows.specs.declared.rows.FileRef.{FileRef};
 ghost use Rattle.arti_ground.specs.State.{State, Reads, Follows, Passes, OnlyReads, HasCause, Rose};
 ghost use Rattle.arti_blobs.specs.Digests.{digests_of};
-ghost use Rattle.arti_blobs.specs.Contents.{Contents, content, end_of, Keeps, HasPair, kept_with, Stages, staged_length, HoldsContents, HoldsStaged, KeepsFront, Behind};
+ghost use Rattle.arti_blobs.specs.Contents.{Contents, content, end_of, Keeps, HasPair, AllDiffer, kept_with, Stages, staged_length, HoldsContents, HoldsStaged, KeepsFront, Behind};
+ghost use Rattle.arti_blobs.specs.Chains.{Adds, FollowsNot};
 
-use crate::comparing::{BLOCK, CONTENTS, find_same};
+use crate::comparing::{BLOCK, CONTENTS, all_differ, find_same};
 use crate::index::Index;
 use crate::staging::{Staged, Staging};
 use crate::{KeepFault, StageFault};
@@ -13,6 +14,9 @@ use arti_ground::Ground;
 use arti_rows::FileRef;
 use std::alloc::{AllocError, Global};
 use std::marker::Model;
+
+/// Where kept contents end at the most.
+const MOST: u64 = 1 << 62;
 
 /// The contents in file 3 of the ground that is handed in beside it. Contracts see the references of the kept contents in order
 /// of keeping, and what is staged.
@@ -61,6 +65,44 @@ impl Blobs {
             one,
             other,
         })
+    }
+
+    /// The same for references that may be any: none exactly where one of them is no earlier one and doesn't begin where the kept
+    /// contents before it end, or where they would end past 2^62.
+    pub fn checked(alloc: Global, files: &[FileRef]) -> Result<Option<Blobs>, AllocError>
+        ensures kept { IfOk result (λ r. IfSome r (λ b. Keeps [] files.now b.kept)) }
+        ensures short { IfOk result (λ r. IfSome r (λ b. end_of b.kept ≤ 2 ^ 62)) }
+        ensures staging { IfOk result (λ r. IfSome r (λ b. b.staging ≡ None)) }
+        ensures none { IfOk result (λ r. r ≡ None → (all : List FileRef) → Keeps [] files.now all → end_of all ≤ 2 ^ 62 → ⊥) }
+    {
+        match checked_index(alloc, files)? {
+            None => Ok(None),
+            Some((index, end)) => {
+                let one = vec![in alloc; 0u8; BLOCK]?;
+                let other = vec![in alloc; 0u8; BLOCK]?;
+                Ok(Some(Blobs {
+                    index,
+                    end,
+                    staging: None,
+                    one,
+                    other,
+                }))
+            }
+        }
+    }
+
+    /// Whether no two kept contents have the same bytes and the same digests. Contents are compared in blocks.
+    pub fn all_differ<G: Ground>(&mut self, outside: &mut G) -> Result<bool, StageFault>
+        requires holds { G.tells → HoldsContents (G.state outside.old) self.old }
+        ensures differ { G.tells → IfOk result (λ b. IsTrue b ↔ AllDiffer ((G.state outside.old).files 3) self.old.kept) }
+        ensures unchanged { self.new ≡ self.old }
+        ensures reads { G.tells → OnlyReads (G.state outside.old) (G.state outside.new) }
+        ensures device { OnErr result (result ≡ Err StageFault.Device) }
+        ensures cause { HasCause (G.disk_faults outside.old) (G.disk_faults outside.new) result }
+        ensures tell_faults { G.tell_faults outside.new ≡ G.tell_faults outside.old }
+    {
+        let _end = self.end;
+        Ok(all_differ(outside, &self.index, &mut self.one, &mut self.other)?)
     }
 
     /// Begins a staging with no bytes. One that isn't ended is given up.
@@ -222,6 +264,42 @@ fn index_of(alloc: Global, kept: &[FileRef]) -> Result<(Index, u64), AllocError>
         }
     }
     Ok((index, end))
+}
+
+// One reference more, which is kept already or begins where the kept contents end, and where they end then. None where it does
+// neither, or where they would end past 2^62.
+fn add_one(index: &mut Index, end: u64, file: &FileRef) -> Result<Option<u64>, AllocError>
+    requires { end ≤ 2 ^ 62 }
+    ensures added { IfOk result (λ r. IfSome r (Adds index.old end file.now index.new)) }
+    ensures none { IfOk result (λ r. r ≡ None → FollowsNot index.old end file.now) }
+{
+    if index.has(file) {
+        return Ok(Some(end));
+    }
+    if file.place != end || file.len > MOST - end {
+        return Ok(None);
+    }
+    index.push(*file)?;
+    Ok(Some(end + file.len))
+}
+
+// What is kept after these references, and where it ends, or none where no list of kept ones has them.
+fn checked_index(alloc: Global, files: &[FileRef]) -> Result<Option<(Index, u64)>, AllocError>
+    ensures kept { IfOk result (λ r. IfSome r (λ x. Keeps [] files.now x.0)) }
+    ensures end { IfOk result (λ r. IfSome r (λ x. x.1 ≡ end_of x.0)) }
+    ensures short { IfOk result (λ r. IfSome r (λ x. x.1 ≤ 2 ^ 62)) }
+    ensures within { IfOk result (λ r. IfSome r (λ x. All (λ file. file.place + file.len ≤ x.1) x.0)) }
+    ensures none { IfOk result (λ r. r ≡ None → (all : List FileRef) → Keeps [] files.now all → end_of all ≤ 2 ^ 62 → ⊥) }
+{
+    let mut index = Index::new(alloc);
+    let mut end = 0;
+    'files: for file in files {
+        match add_one(&mut index, end, file)? {
+            None => return Ok(None),
+            Some(next) => end = next,
+        }
+    }
+    Ok(Some((index, end)))
 }
 
 /// A content that ends in the first bytes of a file is the same in each file with the same first bytes. So what was kept reads

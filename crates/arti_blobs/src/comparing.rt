@@ -1,8 +1,9 @@
 // Contents are compared by their bytes, in blocks.
-ghost use Rattle.std.specs.Prelude.{◌≡◌, ◌↔◌, ◌+◌, ◌^◌, ◌<◌, ◌≤◌, length, take, drop, Contains, None, IsTrue, IfOk, IfSome};
+ghost use Rattle.std.specs.Prelude.{◌≡◌, ◌↔◌, ◌+◌, ◌^◌, ◌<◌, ◌≤◌, length, take, drop, Contains, None, false, IsTrue, IfOk, IfSome};
 ghost use Rattle.arti_rows.specs.declared.rows.FileRef.{FileRef};
 ghost use Rattle.arti_ground.specs.State.{State, OnlyReads, HasCause};
-ghost use Rattle.arti_blobs.specs.Contents.{IsSame};
+ghost use Rattle.arti_blobs.specs.Contents.{IsSame, AllDiffer};
+ghost use Rattle.arti_blobs.specs.Chains.{HasEarlier};
 
 use crate::index::Index;
 use arti_ground::{Failed, Ground};
@@ -105,6 +106,62 @@ pub(crate) fn find_same<G: Ground>(
         next = index.before(at);
     }
     Ok(None)
+}
+
+/// Whether no two contents have the same bytes and the same digests.
+pub(crate) fn all_differ<G: Ground>(
+    outside: &mut G,
+    index: &Index,
+    one: &mut [u8],
+    other: &mut [u8],
+) -> Result<bool, Failed>
+    requires some { 1 ≤ length one.old }
+    requires long { length other.old ≡ length one.old }
+    requires kept { (file : FileRef) → Contains index.now file → file.place + file.len < 2 ^ 63 }
+    requires holds { G.tells → (file : FileRef) → Contains index.now file → file.place + file.len ≤ length ((G.state outside.old).files 3) }
+    ensures differ { G.tells → IfOk result (λ b. IsTrue b ↔ AllDiffer ((G.state outside.old).files 3) index.now) }
+    ensures reads { G.tells → OnlyReads (G.state outside.old) (G.state outside.new) }
+    ensures cause { HasCause (G.disk_faults outside.old) (G.disk_faults outside.new) result }
+    ensures tell_faults { G.tell_faults outside.new ≡ G.tell_faults outside.old }
+{
+    let len = index.len();
+    'kept: for at in 0..len {
+        if has_earlier(outside, index, at, one, other)? {
+            return Ok(false);
+        }
+    }
+    Ok(true)
+}
+
+// Whether a content before one in order of keeping has its bytes and its digests.
+fn has_earlier<G: Ground>(
+    outside: &mut G,
+    index: &Index,
+    at: usize,
+    one: &mut [u8],
+    other: &mut [u8],
+) -> Result<bool, Failed>
+    requires some { 1 ≤ length one.old }
+    requires long { length other.old ≡ length one.old }
+    requires at { at < length index.now }
+    requires kept { (file : FileRef) → Contains index.now file → file.place + file.len < 2 ^ 63 }
+    requires holds { G.tells → (file : FileRef) → Contains index.now file → file.place + file.len ≤ length ((G.state outside.old).files 3) }
+    ensures found { G.tells → IfOk result (λ b. IsTrue b → HasEarlier ((G.state outside.old).files 3) index.now at) }
+    ensures none { G.tells → IfOk result (λ b. b ≡ false → HasEarlier ((G.state outside.old).files 3) index.now at → ⊥) }
+    ensures reads { G.tells → OnlyReads (G.state outside.old) (G.state outside.new) }
+    ensures cause { HasCause (G.disk_faults outside.old) (G.disk_faults outside.new) result }
+    ensures tell_faults { G.tell_faults outside.new ≡ G.tell_faults outside.old }
+{
+    let wanted = index.file(at);
+    let mut next = index.before(at);
+    'chain: while let Some(earlier) = next {
+        let file = index.file(earlier);
+        if is_same(outside, &file, &wanted, one, other)? {
+            return Ok(true);
+        }
+        next = index.before(earlier);
+    }
+    Ok(false)
 }
 
 // Whether two contents are the same: their lengths, their digests and their bytes.

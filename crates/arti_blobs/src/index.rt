@@ -54,6 +54,13 @@ impl Index {
         Ok(())
     }
 
+    /// How many are kept.
+    pub(crate) fn len(&self) -> usize
+        ensures { result ≡ length self.now }
+    {
+        self.kept.len()
+    }
+
     /// The one at an index.
     pub(crate) fn file(&self, index: usize) -> FileRef
         requires { index < length self.now }
