@@ -79,25 +79,33 @@ same_file a b = pointwise nat_eq a.content b.content && same_digests a.digests b
 abbrev pub keep : File → List File → List File
 keep file kept = if list_any (same_file file) kept then kept else kept ++ file ∷ []
 
--- One edit, where `file_of` tells the content and digests of a reference. An edit that isn't built changes nothing.
-abbrev pub apply_edit : (FileRef → File) → ℤ → List ℕ → Edit → Holding → Holding
-apply_edit file_of moment user (edits.Folder key) h =
-    record h { repository = record { items = with_folder h.repository.items moment user key } }
-apply_edit file_of moment user (edits.File key given file props) h = record {
-  repository = record { items = with_deployed h.repository.items moment user key given (file_of file) props };
-  kept = keep (file_of file) h.kept;
-}
-apply_edit file_of moment user (edits.Downloaded key) h =
-    record h { repository = record { items = with_download h.repository.items moment user key } }
-apply_edit file_of moment user edit h = h
+-- What one edit does to the items, where `file_of` tells the content and digests of a reference. An edit that isn't built changes nothing.
+abbrev pub edited : (FileRef → File) → ℤ → List ℕ → Edit → List Item → List Item
+edited file_of moment user (edits.Folder key) items = with_folder items moment user key
+edited file_of moment user (edits.File key given file props) items = with_deployed items moment user key given (file_of file) props
+edited file_of moment user (edits.Downloaded key) items = with_download items moment user key
+edited file_of moment user edit items = items
 
-abbrev pub apply_edits : (FileRef → File) → ℤ → List ℕ → List Edit → Holding → Holding
-apply_edits file_of moment user [] h = h
-apply_edits file_of moment user (edit ∷ edits) h = apply_edits file_of moment user edits (apply_edit file_of moment user edit h)
+-- what it adds to the kept contents
+abbrev pub keep_edited : (FileRef → File) → Edit → List File → List File
+keep_edited file_of (edits.File key given file props) kept = keep (file_of file) kept
+keep_edited file_of edit kept = kept
+
+-- the same of several, one after the other
+abbrev pub edited_by : (FileRef → File) → ℤ → List ℕ → List Edit → List Item → List Item
+edited_by file_of moment user [] items = items
+edited_by file_of moment user (edit ∷ edits) items = edited_by file_of moment user edits (edited file_of moment user edit items)
+
+abbrev pub keep_edited_by : (FileRef → File) → List Edit → List File → List File
+keep_edited_by file_of [] kept = kept
+keep_edited_by file_of (edit ∷ edits) kept = keep_edited_by file_of edits (keep_edited file_of edit kept)
 
 -- a change
 unfoldable pub apply : (FileRef → File) → Change → Holding → Holding
-apply file_of change h = apply_edits file_of change.moment change.user change.edits h
+apply file_of change h = record {
+  repository = record { items = edited_by file_of change.moment change.user change.edits h.repository.items };
+  kept = keep_edited_by file_of change.edits h.kept;
+}
 
 -- changes one after the other
 abbrev pub apply_all : (FileRef → File) → List Change → Holding → Holding
@@ -158,12 +166,11 @@ first_refusal None next = next
 first_refusal (Some refusal) next = Some refusal
 
 -- the first refusal of some edits, each judged after those before it
-abbrev pub edits_refusal : Limits → (FileRef → File) → ℤ → List ℕ → List Edit → Holding → Option Refusal
-edits_refusal limits file_of moment user [] h = None
-edits_refusal limits file_of moment user (edit ∷ edits) h =
-    first_refusal (edit_refusal limits edit h.repository.items)
-    (edits_refusal limits file_of moment user edits (apply_edit file_of moment user edit h))
+abbrev pub edits_refusal : Limits → (FileRef → File) → ℤ → List ℕ → List Edit → List Item → Option Refusal
+edits_refusal limits file_of moment user [] items = None
+edits_refusal limits file_of moment user (edit ∷ edits) items =
+    first_refusal (edit_refusal limits edit items) (edits_refusal limits file_of moment user edits (edited file_of moment user edit items))
 
 -- the refusal of a change
 unfoldable pub refusal : Limits → (FileRef → File) → Change → Holding → Option Refusal
-refusal limits file_of change h = edits_refusal limits file_of change.moment change.user change.edits h
+refusal limits file_of change h = edits_refusal limits file_of change.moment change.user change.edits h.repository.items
