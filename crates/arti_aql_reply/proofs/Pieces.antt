@@ -1,5 +1,5 @@
 -- Pieces written one behind the other.
-use Rattle.std.proofs.Common.{◌≡◌, ℕ, List, [], ◌∷◌, ◌++◌, sym, ap, refl, ◌∙◌, append_assoc}
+use Rattle.std.proofs.Common.{◌≡◌, ℕ, List, [], ◌∷◌, ◌++◌, ap, ◌∙◌, append_assoc}
 use Rattle.std.proofs.lemmas.List.{append-nil}
 use Rattle.std.specs.Prelude.{codes, decimal, Option, Some, None}
 use Rattle.json.specs.Print.{quoted}
@@ -34,18 +34,25 @@ file_parts a b c d s e f g h i z = simp (append_assoc, append-nil)
 module _ (m : Facts) where
   abbrev repo : List ℕ
   repo = member (codes "repo") (quoted m.key.repo)
+
   abbrev path : List ℕ
   path = next (codes "path") (quoted m.key.path)
+
   abbrev name : List ℕ
   name = next (codes "name") (quoted m.key.name)
+
   abbrev created : List ℕ
   created = next (codes "created") (quoted (printed m.created))
+
   abbrev created_by : List ℕ
   created_by = next (codes "created_by") (quoted m.created_by)
+
   abbrev modified : List ℕ
   modified = next (codes "modified") (quoted (printed m.modified))
+
   abbrev modified_by : List ℕ
   modified_by = next (codes "modified_by") (quoted m.modified_by)
+
   abbrev updated : List ℕ
   updated = next (codes "updated") (quoted (printed m.updated))
 

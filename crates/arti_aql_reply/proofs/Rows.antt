@@ -1,5 +1,5 @@
 -- Rows that are written one behind the other.
-use Rattle.std.proofs.Common.{◌≡◌, ℕ, ◌+◌, ◌<◌, ◌≤◌, List, [], ◌∷◌, ◌++◌, length, get_or, drop, map, sym, ap, subst, refl, ◌∙◌, arith, Bor, append_assoc, length-append, drop-cons, add-one}
+use Rattle.std.proofs.Common.{◌≡◌, ℕ, ◌+◌, ◌<◌, List, ◌∷◌, ◌++◌, length, get_or, drop, map, sym, ap, ◌∙◌, arith, Bor, append_assoc, length-append, drop-cons, add-one}
 use Rattle.std.specs.Prelude.{flat_map}
 use Rattle.arti_rows.specs.declared.rows.ItemRow.{ItemRow}
 use Rattle.arti_model.specs.Query.{row_text}

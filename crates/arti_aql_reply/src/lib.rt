@@ -8,4 +8,3 @@ mod row;
 
 pub use fault::ReplyFault;
 pub use reply::thin_reply;
-

@@ -18,7 +18,12 @@ fn write_name(out: &mut Vec<u8>, name: &str) -> Result<(), AllocError>
 }
 
 /// A member with a text.
-pub fn write_words(alloc: Global, out: &mut Vec<u8>, name: &str, words: &str) -> Result<(), AllocError>
+pub fn write_words(
+    alloc: Global,
+    out: &mut Vec<u8>,
+    name: &str,
+    words: &str,
+) -> Result<(), AllocError>
     ensures { OnOk result (out.new.items ≡ out.old.items ++ member name.now (quoted words.now)) }
 {
     write_name(out, name)?;
@@ -34,7 +39,12 @@ pub fn write_size(alloc: Global, out: &mut Vec<u8>, name: &str, n: u64) -> Resul
 }
 
 /// A member with a moment, as a text.
-pub fn write_date(alloc: Global, out: &mut Vec<u8>, name: &str, moment: Moment) -> Result<(), AllocError>
+pub fn write_date(
+    alloc: Global,
+    out: &mut Vec<u8>,
+    name: &str,
+    moment: Moment,
+) -> Result<(), AllocError>
     ensures { OnOk result (out.new.items ≡ out.old.items ++ member name.now (quoted (printed moment))) }
 {
     let text = arti_time::print(alloc, moment)?;
@@ -42,7 +52,12 @@ pub fn write_date(alloc: Global, out: &mut Vec<u8>, name: &str, moment: Moment) 
 }
 
 /// A further member with a text.
-pub fn write_next_words(alloc: Global, out: &mut Vec<u8>, name: &str, words: &str) -> Result<(), AllocError>
+pub fn write_next_words(
+    alloc: Global,
+    out: &mut Vec<u8>,
+    name: &str,
+    words: &str,
+) -> Result<(), AllocError>
     ensures { OnOk result (out.new.items ≡ out.old.items ++ 44 ∷ member name.now (quoted words.now)) }
 {
     out.push(b',')?;
@@ -50,7 +65,12 @@ pub fn write_next_words(alloc: Global, out: &mut Vec<u8>, name: &str, words: &st
 }
 
 /// A further member with a number.
-pub fn write_next_size(alloc: Global, out: &mut Vec<u8>, name: &str, n: u64) -> Result<(), AllocError>
+pub fn write_next_size(
+    alloc: Global,
+    out: &mut Vec<u8>,
+    name: &str,
+    n: u64,
+) -> Result<(), AllocError>
     ensures { OnOk result (out.new.items ≡ out.old.items ++ 44 ∷ member name.now (decimal n)) }
 {
     out.push(b',')?;
@@ -58,7 +78,12 @@ pub fn write_next_size(alloc: Global, out: &mut Vec<u8>, name: &str, n: u64) -> 
 }
 
 /// A further member with a moment.
-pub fn write_next_date(alloc: Global, out: &mut Vec<u8>, name: &str, moment: Moment) -> Result<(), AllocError>
+pub fn write_next_date(
+    alloc: Global,
+    out: &mut Vec<u8>,
+    name: &str,
+    moment: Moment,
+) -> Result<(), AllocError>
     ensures { OnOk result (out.new.items ≡ out.old.items ++ 44 ∷ member name.now (quoted (printed moment))) }
 {
     out.push(b',')?;

@@ -81,7 +81,13 @@ fn write_plain(out: &mut Vec<u8>, bytes: &[u8]) -> Result<(), AllocError>
 }
 
 // Appends what tells where the rows stand among those that are selected.
-fn write_range(alloc: Global, out: &mut Vec<u8>, offset: u64, limit: Option<u64>, total: u64) -> Result<(), AllocError>
+fn write_range(
+    alloc: Global,
+    out: &mut Vec<u8>,
+    offset: u64,
+    limit: Option<u64>,
+    total: u64,
+) -> Result<(), AllocError>
     requires { offset + total < 2 ^ 64 }
     ensures { OnOk result (out.new.items ≡ out.old.items ++ range_text offset limit total) }
 {

@@ -22,7 +22,12 @@ fn kind_name(file: &Option<FileRef>) -> &'static str
 }
 
 // Where an item is, and its kind.
-fn write_place(alloc: Global, out: &mut Vec<u8>, key: &ItemKey, kind: &str) -> Result<(), AllocError>
+fn write_place(
+    alloc: Global,
+    out: &mut Vec<u8>,
+    key: &ItemKey,
+    kind: &str,
+) -> Result<(), AllocError>
     ensures { OnOk result (out.new.items ≡ out.old.items ++ place_text key.now kind.now) }
 {
     out.push(b'{')?;

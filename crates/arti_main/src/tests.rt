@@ -181,3 +181,61 @@ fn files_of_a_folder(rt: HostRuntime) -> Result<(), Fail> {
     assert!(&rt; nowhere.write_at(1, 0, b"a") == Err(Failed));
     Ok(())
 }
+
+const QUERY: &[u8] =
+    b"POST /api/search/aql HTTP/1.1\r\nContent-Length: 36\r\n\r\nitems.find({\"repo\":\"generic-local\"})";
+
+const ROW: &[u8] =
+    b"HTTP/1.1 200 OK\r\nContent-Type: application/json\r\nContent-Length: 296\r\n\r\n{\"results\":[{\"repo\":\"generic-local\",\"path\":\"a\",\"name\":\"b.txt\",\"type\":\"file\",\"size\":3,\"created\":\"1970-01-01T00:00:00.000Z\",\"created_by\":\"anonymous\",\"modified\":\"1970-01-01T00:00:00.000Z\",\"modified_by\":\"anonymous\",\"updated\":\"1970-01-01T00:00:00.000Z\"}],\"range\":{\"start_pos\":0,\"end_pos\":1,\"total\":1}}";
+
+const NO_ROW: &[u8] =
+    b"HTTP/1.1 200 OK\r\nContent-Type: application/json\r\nContent-Length: 60\r\n\r\n{\"results\":[],\"range\":{\"start_pos\":0,\"end_pos\":0,\"total\":0}}";
+
+const OTHER_QUERY: &[u8] =
+    b"POST /api/search/aql HTTP/1.1\r\nContent-Length: 12\r\n\r\nitems.find()";
+
+const NOT_YET_AT: &[u8] =
+    b"HTTP/1.1 501 Not Implemented\r\nContent-Type: application/json\r\nContent-Length: 50\r\n\r\n{\"errors\":[{\"status\":501,\"message\":\"NotYet: 11\"}]}";
+
+const PING: &[u8] = b"\r\nGET /api/system/ping HTTP/1.1\r\nConnection: close\r\n\r\nrest";
+
+const NOT_YET: &[u8] =
+    b"HTTP/1.1 501 Not Implemented\r\nContent-Type: application/json\r\nContent-Length: 46\r\n\r\n{\"errors\":[{\"status\":501,\"message\":\"NotYet\"}]}";
+
+const TOO_LARGE: &[u8] = b"PUT /generic-local/a HTTP/1.1\r\nContent-Length: 67108865\r\n\r\n";
+
+const BODY_TOO_LARGE: &[u8] =
+    b"HTTP/1.1 413 Payload Too Large\r\nContent-Type: application/json\r\nContent-Length: 52\r\n\r\n{\"errors\":[{\"status\":413,\"message\":\"BodyTooLarge\"}]}";
+
+const NO_NUMBER: &[u8] = b"PUT /generic-local/a HTTP/1.1\r\nContent-Length: 3x\r\n\r\n";
+
+const BAD_LENGTH: &[u8] =
+    b"HTTP/1.1 400 Bad Request\r\nContent-Type: application/json\r\nContent-Length: 49\r\n\r\n{\"errors\":[{\"status\":400,\"message\":\"BadLength\"}]}";
+
+const CODED: &[u8] = b"PUT /generic-local/a HTTP/1.1\r\nTransfer-Encoding: gzip\r\n\r\n";
+
+const UNKNOWN_CODING: &[u8] =
+    b"HTTP/1.1 501 Not Implemented\r\nContent-Type: application/json\r\nContent-Length: 53\r\n\r\n{\"errors\":[{\"status\":501,\"message\":\"UnknownCoding\"}]}";
+
+#[test]
+fn queries_and_hostile_requests(rt: HostRuntime) -> Result<(), Fail> {
+    let alloc = rt.alloc();
+    let table: &[(&[u8], &[u8], &[u8], &[u8], Status)] = &[
+        (PUT, QUERY, CREATED, ROW, Status::Ok),
+        (QUERY, OTHER_QUERY, NO_ROW, NOT_YET_AT, Status::Ok),
+        (b"", PING, b"", NOT_YET, Status::Ok),
+        (QUERY, TOO_LARGE, NO_ROW, BODY_TOO_LARGE, Status::BadInput),
+        (b"", NO_NUMBER, b"", BAD_LENGTH, Status::BadInput),
+        (b"", CODED, b"", UNKNOWN_CODING, Status::BadInput),
+    ];
+    for (first, second, reply, last, status) in table {
+        let mut input = first.to_vec(alloc)?;
+        input.extend_from_slice(second)?;
+        let mut want = reply.to_vec(alloc)?;
+        want.extend_from_slice(last)?;
+        let (told, ended) = told_by::<Brand>(&rt, REPLAY, input, Vec::new(alloc), Blank::new(1))?;
+        assert!(&rt; ended == *status);
+        assert!(&rt; told.as_slice() == want.as_slice());
+    }
+    Ok(())
+}

@@ -109,6 +109,7 @@ fn tell_parts<G: Ground>(ground: &mut G, line: u32, first: &[u8], second: &[u8])
     ensures stops { G.tells → IfErr result (λ stop. StopsTelling stop (first.now ++ second.now) ((G.state ground.old).told line) ((G.state ground.new).told line)) }
     ensures tell_fault { IsErrOf result Stop.Tell → Rose (G.tell_faults ground.old line) (G.tell_faults ground.new line) }
     ensures quiet { result ≢ Err Stop.Tell → G.tell_faults ground.new ≡ G.tell_faults ground.old }
+    ensures no_memory { result ≢ Err Stop.Memory }
     ensures no_disk { result ≢ Err Stop.Disk }
     ensures disk_faults { G.disk_faults ground.new ≡ G.disk_faults ground.old }
     ensures disk { G.tells → LeavesDisk (G.state ground.old) (G.state ground.new) }
@@ -175,6 +176,7 @@ fn tell_memory<G: Ground>(ground: &mut G, line: u32) -> Result<(), Stop>
     ensures stops { G.tells → IfErr result (λ stop. StopsTelling stop memory_reply ((G.state ground.old).told line) ((G.state ground.new).told line)) }
     ensures tell_fault { IsErrOf result Stop.Tell → Rose (G.tell_faults ground.old line) (G.tell_faults ground.new line) }
     ensures quiet { result ≢ Err Stop.Tell → G.tell_faults ground.new ≡ G.tell_faults ground.old }
+    ensures no_memory { result ≢ Err Stop.Memory }
     ensures no_disk { result ≢ Err Stop.Disk }
     ensures disk_faults { G.disk_faults ground.new ≡ G.disk_faults ground.old }
     ensures disk { G.tells → LeavesDisk (G.state ground.old) (G.state ground.new) }
@@ -198,6 +200,7 @@ fn answer_query<G: Ground>(
     ensures stops { G.tells → IfErr result (λ stop. StoppedIn stop (MayReply Asked.Query (query limits.now store.now body.now)) store.now ((G.state ground.old).told line) ((G.state ground.new).told line) store.now store.now) }
     ensures tell_fault { IsErrOf result Stop.Tell → Rose (G.tell_faults ground.old line) (G.tell_faults ground.new line) }
     ensures quiet { result ≢ Err Stop.Tell → G.tell_faults ground.new ≡ G.tell_faults ground.old }
+    ensures no_memory { result ≢ Err Stop.Memory }
     ensures no_disk { result ≢ Err Stop.Disk }
     ensures disk_faults { G.disk_faults ground.new ≡ G.disk_faults ground.old }
     ensures disk { G.tells → LeavesDisk (G.state ground.old) (G.state ground.new) }

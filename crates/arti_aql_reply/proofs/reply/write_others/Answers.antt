@@ -1,4 +1,3 @@
-use Rattle.std.proofs.Common.{◌≡◌}
 use Rattle.arti_model.specs.Step.{reply_room}
 use Rattle.arti_aql_reply.proofs.Rows.{goes_on, too_long}
 use Rattle.arti_aql_reply.proofs.reply.write_others.Goals as goal

@@ -1,5 +1,4 @@
-use Rattle.std.proofs.Common.{◌≡◌, [], ◌++◌, sym, rules}
-use Rattle.std.proofs.lemmas.List.{append-nil}
+use Rattle.std.proofs.Common.{rules}
 use Rattle.arti_aql_reply.specs.Parts.{size_text}
 use Rattle.arti_aql_reply.proofs.row.write_file.Goals as goal
 
