@@ -1,5 +1,5 @@
 -- Items that are put among others keep the default order.
-use Rattle.std.proofs.Common.{◌≡◌, ℕ, ◌+◌, ◌<◌, ◌≤◌, zero, suc, Bool, true, false, cond, List, [], ◌∷◌, ◌++◌, length, get_or, refl, sym, ap, ◌∙◌, arith, Ordering, Less, Equal, Greater}
+use Rattle.std.proofs.Common.{◌≡◌, zero, suc, Bool, true, false, cond, List, [], ◌∷◌, ◌++◌, refl, arith, Ordering, Less, Equal, Greater}
 use Rattle.std.specs.Prelude.{All, filter}
 use Rattle.std.specs.List.{AllPairs}
 use Rattle.std.specs.Ordering.{is_lt}
@@ -41,7 +41,7 @@ module _ {X : Type 0} (R : X → X → Type 0) where
   pairs_append [] ys across p q = q
   pairs_append (x ∷ xs) ys across p q =
       AllPairs-cons R x (xs ++ ys) (All-append (R x) xs ys (heads x xs p) (All-head (λ y. All (R y) ys) x xs across))
-        (pairs_append xs ys (All-tail (λ y. All (R y) ys) x xs across) (tails x xs p) q)
+      (pairs_append xs ys (All-tail (λ y. All (R y) ys) x xs across) (tails x xs p) q)
 
 pub put_in_order : (new : Item) (items : List Item) → InDefaultOrder items → InDefaultOrder (put_item new items)
 put_in_order new items order =
@@ -50,8 +50,8 @@ put_in_order new items order =
     let before : All (λ x. Before x new) (filter less items) = kept_pass less (λ x. Before x new) (λ x e. less_by (key_cmp x.key new.key) e) items in
     let behind : All (λ y. Before new y) (filter more items) = kept_pass more (λ y. Before new y) (λ y e. less_by (key_cmp new.key y.key) e) items in
     pairs_append Before (filter less items) (new ∷ filter more items)
-      (All-weaker (λ x. Before x new) (λ x. All (Before x) (new ∷ filter more items))
-        (λ x e. All-cons (Before x) new (filter more items) e (All-weaker (λ y. Before new y) (Before x) (λ y f. total.trans x.key new.key y.key e f) (filter more items) behind))
-        (filter less items) before)
-      (AllPairs-filter Before less items order)
-      (AllPairs-cons Before new (filter more items) behind (AllPairs-filter Before more items order))
+    (All-weaker (λ x. Before x new) (λ x. All (Before x) (new ∷ filter more items))
+    (λ x e. All-cons (Before x) new (filter more items) e (All-weaker (λ y. Before new y) (Before x) (λ y f. total.trans x.key new.key y.key e f) (filter more items) behind))
+    (filter less items) before)
+    (AllPairs-filter Before less items order)
+    (AllPairs-cons Before new (filter more items) behind (AllPairs-filter Before more items order))

@@ -1,5 +1,5 @@
 -- Runs without want of memory.
-use Rattle.std.proofs.Common.{◌≡◌, ℤ, List, [], ◌∷◌, drop, inl, refl}
+use Rattle.std.proofs.Common.{ℤ, List, [], ◌∷◌, drop, inl, refl}
 use Rattle.arti_rows.specs.declared.limits.Limits.{Limits}
 use Rattle.arti_model.specs.Requests.{Whole, Ending}
 use Rattle.arti_model.specs.Store.{Repository}

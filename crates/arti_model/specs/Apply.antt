@@ -1,5 +1,5 @@
 -- What a change does to a store (of this project): its edits one after the other, and why one is refused.
-use Rattle.std.specs.Prelude.{ℕ, ◌+◌, min, ℤ, Bool, true, false, not, ◌&&◌, ◌||◌, nat_le, nat_eq, ◌==◌, if◌then◌else◌, List, [], ◌∷◌, ◌++◌, length, map, Option, Some, None, option_map, unwrap_or}
+use Rattle.std.specs.Prelude.{ℕ, ◌+◌, min, ℤ, Bool, true, false, not, ◌&&◌, nat_le, nat_eq, ◌==◌, if◌then◌else◌, List, [], ◌∷◌, ◌++◌, length, map, Option, Some, None, option_map, unwrap_or}
 use Rattle.std.specs.List.{find, list_any}
 use Rattle.std.specs.Cmp.Lexicographic.{pointwise}
 use Rattle.arti_rows.specs.Key.{Key, folders_above}

@@ -1,5 +1,5 @@
 -- The bodies of replies: JSON (RFC 8259) with its members in a stated order and no spaces.
-use Rattle.std.specs.Prelude.{ℕ, ℤ, List, [], ◌∷◌, ◌++◌, length, map, codes, decimal, flat_map, Option, Some, None}
+use Rattle.std.specs.Prelude.{ℕ, ℤ, List, [], ◌∷◌, ◌++◌, length, codes, decimal, flat_map, Some, None}
 use Rattle.json.specs.Print.{quoted}
 use Rattle.hex.specs.Hex.{encode_lower}
 use Rattle.arti_time.specs.Printed.{printed}

@@ -1,5 +1,5 @@
 -- A whole stream of requests: the replies one after the other, and the repository at the end.
-use Rattle.std.specs.Prelude.{◌≡◌, ◌⊎◌, ℕ, zero, suc, ◌+◌, ℤ, pos, ◌+ℤ◌, Bool, IsTrue, List, [], ◌∷◌, ◌++◌, drop, codes}
+use Rattle.std.specs.Prelude.{◌≡◌, ◌⊎◌, ℕ, zero, suc, ℤ, pos, ◌+ℤ◌, Bool, IsTrue, List, [], ◌∷◌, ◌++◌, drop, codes}
 use Rattle.arti_rows.specs.declared.limits.Limits.{Limits}
 use Rattle.arti_model.specs.declared.Why.{Why}
 use Rattle.arti_model.specs.declared.Why.TheVariants.{BadHead, HeadTooLarge, BadLength, UnknownCoding, BodyTooLarge}
