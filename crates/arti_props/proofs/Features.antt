@@ -1,0 +1,71 @@
+-- What a change of digests does to the lists of each feature.
+use Rattle.std.proofs.Common.{◌≡◌, ℕ, Bool, true, false, List, refl, sym, ap, ◌∙◌, inl, Option, Some, None, subst}
+use Rattle.std.specs.Prelude.{if◌then◌else◌}
+use Rattle.std.specs.Ordering.{nat_cmp}
+use Rattle.std.specs.Cmp.Lexicographic.{slice_cmp}
+use Rattle.std.specs.Str.{bytes_eq}
+use Rattle.std.specs.BTreeMap.{BTreeMap, get, is_at}
+use Rattle.std.proofs.lemmas.Map.Text.{is_eq-slice_cmp}
+use Rattle.std.proofs.lemmas.Slice.Eq.{bytes_eq-Decides}
+use Rattle.arti_rows.specs.declared.rows.Digests.{Digests}
+use Rattle.arti_props.specs.declared.index.Index.{Index}
+use Rattle.arti_props.specs.Ids.{IdList}
+use Rattle.arti_props.specs.Lists.{ids_of, HasRoom, IsReady}
+use Rattle.arti_props.specs.Rows.{Feature, Pair, Md5, Sha1, Sha256, has_digest, has}
+use Rattle.arti_props.specs.declared.row.Row.{Row}
+use Rattle.std.specs.Option.{option_map_or}
+use Rattle.std.proofs.lemmas.Bool.{false≢true}
+use Rattle.arti_props.specs.Asked.{list_of}
+
+abbrev pub Lists : Type 0
+Lists = BTreeMap (List ℕ) IdList
+
+abbrev pub found : Lists → List ℕ → Option IdList
+found lists digest = get (slice_cmp nat_cmp) lists digest
+
+pub same_digest : (d : List ℕ) → bytes_eq d d ≡ true
+same_digest d = (bytes_eq-Decides d d).1 refl
+
+pub ready_of : (id : ℕ) (o : Option IdList) → HasRoom o → IsReady id o
+ready_of id (Some list) room = inl room
+ready_of id None room = room
+
+-- the list of one digest changes
+abbrev pub Turns : (List ℕ → List ℕ) → List ℕ → Lists → Lists → Type 0
+Turns op digest old new = (d : List ℕ) → ids_of (found new d) ≡ (if is_at (slice_cmp nat_cmp digest) d then op (ids_of (found old d)) else ids_of (found old d))
+
+turn : (op : List ℕ → List ℕ) (digest : List ℕ) (old new : Lists) → Turns op digest old new → (d : List ℕ) → ids_of (found new d) ≡ (if bytes_eq digest d then op (ids_of (found old d)) else ids_of (found old d))
+turn op digest old new turns d = turns d ∙ ap (λ (b : Bool). if b then op (ids_of (found old d)) else ids_of (found old d)) (is_eq-slice_cmp digest d)
+
+pub turn_all : (op : List ℕ → List ℕ) (digests : Digests) (old new : Index) → new.values ≡ old.values → Turns op digests.md5 old.md5s new.md5s → Turns op digests.sha1 old.sha1s new.sha1s → Turns op digests.sha256 old.sha256s new.sha256s
+    → (f : Feature) → ids_of (list_of new f) ≡ (if has_digest f digests then op (ids_of (list_of old f)) else ids_of (list_of old f))
+turn_all op digests old new values md5 sha1 sha256 (Pair k v) = ap (λ m. ids_of (list_of (record old { values = m }) (Pair k v))) values
+turn_all op digests old new values md5 sha1 sha256 (Md5 d) = turn op digests.md5 old.md5s new.md5s md5 d
+turn_all op digests old new values md5 sha1 sha256 (Sha1 d) = turn op digests.sha1 old.sha1s new.sha1s sha1 d
+turn_all op digests old new values md5 sha1 sha256 (Sha256 d) = turn op digests.sha256 old.sha256s new.sha256s sha256 d
+
+abbrev pub Stays : Lists → Lists → Type 0
+Stays old new = (d : List ℕ) → ids_of (found new d) ≡ ids_of (found old d)
+
+pub stay_all : (old new : Index) → new.values ≡ old.values → Stays old.md5s new.md5s → Stays old.sha1s new.sha1s → Stays old.sha256s new.sha256s → (f : Feature) → ids_of (list_of new f) ≡ ids_of (list_of old f)
+stay_all old new values md5 sha1 sha256 (Pair k v) = ap (λ m. ids_of (list_of (record old { values = m }) (Pair k v))) values
+stay_all old new values md5 sha1 sha256 (Md5 d) = md5 d
+stay_all old new values md5 sha1 sha256 (Sha1 d) = sha1 d
+stay_all old new values md5 sha1 sha256 (Sha256 d) = sha256 d
+
+abbrev pub Keeps : Lists → Lists → Type 0
+Keeps old new = (d : List ℕ) → HasRoom (found old d) → HasRoom (found new d)
+
+pub keep_all : (old new : Index) → new.values ≡ old.values → Keeps old.md5s new.md5s → Keeps old.sha1s new.sha1s → Keeps old.sha256s new.sha256s → (f : Feature) → HasRoom (list_of old f) → HasRoom (list_of new f)
+keep_all old new values md5 sha1 sha256 (Pair k v) was = subst (λ m. HasRoom (list_of (record old { values = m }) (Pair k v))) (sym values) was
+keep_all old new values md5 sha1 sha256 (Md5 d) was = md5 d was
+keep_all old new values md5 sha1 sha256 (Sha1 d) was = sha1 d was
+keep_all old new values md5 sha1 sha256 (Sha256 d) was = sha256 d was
+
+-- where a row has digests, what they have it has
+pub digest_room : (old new : Index) (digests : Digests) (row : Row) → new.md5s ≡ old.md5s → new.sha1s ≡ old.sha1s → new.sha256s ≡ old.sha256s → row.digests ≡ Some digests → ((f : Feature) → has f row ≡ true → HasRoom (list_of old f))
+    → (f : Feature) → has_digest f digests ≡ true → HasRoom (list_of new f)
+digest_room old new digests row md5 sha1 sha256 is room (Pair k v) has = absurd (false≢true has)
+digest_room old new digests row md5 sha1 sha256 is room (Md5 d) has = subst (λ (m : Lists). HasRoom (found m d)) (sym md5) (room (Md5 d) (ap (λ o. option_map_or (has_digest (Md5 d)) o false) is ∙ has))
+digest_room old new digests row md5 sha1 sha256 is room (Sha1 d) has = subst (λ (m : Lists). HasRoom (found m d)) (sym sha1) (room (Sha1 d) (ap (λ o. option_map_or (has_digest (Sha1 d)) o false) is ∙ has))
+digest_room old new digests row md5 sha1 sha256 is room (Sha256 d) has = subst (λ (m : Lists). HasRoom (found m d)) (sym sha256) (room (Sha256 d) (ap (λ o. option_map_or (has_digest (Sha256 d)) o false) is ∙ has))

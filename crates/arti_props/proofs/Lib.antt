@@ -1,0 +1,5 @@
+mod Order
+mod Updates
+mod Pairs
+mod Features
+mod RowLists

@@ -1,0 +1,4 @@
+pub mod Ids
+pub mod Rows
+pub mod Lists
+pub mod Asked
