@@ -1,0 +1,146 @@
+#!/bin/bash
+# Times a tree of 1,000, 10,000, 100,000 and 1,000,000 files in 64 folders: in nanoseconds for one put of a new key, one look-up
+# by key, one rank and one removal, each over 1,000 of them, and the ratio to the time at 1,000 files. It works in a copy, and
+# leaves nothing in the repository.
+#
+#     bench/tree/run.sh [SIZE..]      other numbers of files
+set -e
+top=$(cd "$(dirname "$0")/../.." && pwd)
+copy=$(mktemp -d)
+trap 'rm -rf "$copy"' EXIT
+mkdir "$copy/crates"
+for crate in arti_rows arti_tree; do
+    cp -r "$top/crates/$crate" "$copy/crates/$crate"
+    rm -rf "$copy/crates/$crate/must-fail"
+    grep "^$crate:" "$top/crates.txt" >> "$copy/crates.txt"
+done
+echo 'arti_tree_times: arti_rows arti_tree' >> "$copy/crates.txt"
+times="$copy/crates/arti_tree_times"
+mkdir -p "$times/src"
+cat > "$times/src/main.rt" <<'PROGRAM'
+//! Times a tree of as many files as its argument says.
+#![tactic(auto)]
+
+use arti_rows::ItemKey;
+use arti_tree::Tree;
+use std::alloc::Global;
+use std::env;
+use std::io;
+use std::time::Instant;
+
+const COUNT: u128 = 1_000;
+
+fn failed() -> io::Error {
+    io::Error::from(io::ErrorKind::Other)
+}
+
+fn key(alloc: Global, k: u32) -> io::Result<ItemKey> {
+    let mixed = k.wrapping_mul(0x9E37_79B1);
+    let folder = mixed % 64;
+    let whole = format!(in alloc; "builds/nightly/{folder}/an-artifact-{mixed}-{k}.bin")?;
+    match ItemKey::new(alloc, "generic-local", whole.as_str()) {
+        Ok(key) => Ok(key),
+        Err(_) => Err(failed()),
+    }
+}
+
+fn keys(alloc: Global, from: u32, to: u32) -> io::Result<Vec<ItemKey>> {
+    let mut keys = Vec::new(alloc);
+    for k in from..to {
+        if keys.push(key(alloc, k)?).is_err() {
+            return Err(failed());
+        }
+    }
+    Ok(keys)
+}
+
+fn put_one(alloc: Global, tree: &mut Tree, key: ItemKey) -> bool {
+    tree.put(alloc, key, true, u32::MAX).is_ok()
+}
+
+fn put_all(alloc: Global, tree: &mut Tree, keys: Vec<ItemKey>) -> io::Result<()> {
+    for key in keys {
+        if !put_one(alloc, tree, key) {
+            return Err(failed());
+        }
+    }
+    Ok(())
+}
+
+fn find_all(alloc: Global, tree: &Tree, keys: &[ItemKey]) -> io::Result<Vec<u32>> {
+    let mut ids = Vec::with_capacity(alloc, keys.len())?;
+    for key in keys {
+        if let Some(id) = tree.get(key) {
+            ids.push(id).ok();
+        }
+    }
+    Ok(ids)
+}
+
+fn ranks(tree: &Tree, ids: &[u32]) -> u32 {
+    let mut mixed = 0u32;
+    for id in ids {
+        if let Some(rank) = tree.rank(*id) {
+            mixed = mixed.wrapping_add(rank);
+        }
+    }
+    mixed
+}
+
+fn remove_all(tree: &mut Tree, ids: &[u32]) -> bool {
+    let mut all = true;
+    for id in ids {
+        all = tree.remove(*id) && all;
+    }
+    all
+}
+
+fn size(rt: &HostRuntime) -> io::Result<u32> {
+    let mut words = env::args(rt)?;
+    let _program = words.next();
+    match words.next() {
+        Some(word) => match word.as_str().parse::<u32>() {
+            Ok(n) if n < 1_000_000_000 => Ok(n),
+            _ => Err(failed()),
+        },
+        None => Err(failed()),
+    }
+}
+
+fn main(rt: HostRuntime) -> io::Result<()> {
+    let n = size(&rt)?;
+    let mut tree = Tree::new(rt.alloc())?;
+    put_all(rt.alloc(), &mut tree, keys(rt.alloc(), 0, n)?)?;
+    let more = keys(rt.alloc(), n, n.saturating_add(1_000))?;
+    let again = keys(rt.alloc(), n, n.saturating_add(1_000))?;
+    let start = Instant::now(&rt)?;
+    put_all(rt.alloc(), &mut tree, more)?;
+    let put = start.elapsed(&rt)?.as_nanos() / COUNT;
+    let start = Instant::now(&rt)?;
+    let ids = find_all(rt.alloc(), &tree, again.as_slice())?;
+    let get = start.elapsed(&rt)?.as_nanos() / COUNT;
+    let start = Instant::now(&rt)?;
+    let mixed = ranks(&tree, ids.as_slice());
+    let rank = start.elapsed(&rt)?.as_nanos() / COUNT;
+    let start = Instant::now(&rt)?;
+    let all = remove_all(&mut tree, ids.as_slice());
+    let remove = start.elapsed(&rt)?.as_nanos() / COUNT;
+    println!(rt; "{put} {get} {rank} {remove} {mixed} {all}")
+}
+PROGRAM
+(cd "$times" && rt run -- 1000 > "$copy/built" 2>&1) || { cat "$copy/built"; exit 1; }
+python3 - "$times/out/arti_tree_times" "${@:-1000 10000 100000 1000000}" <<'REPORT'
+import resource, subprocess, sys
+
+first = None
+for size in ' '.join(sys.argv[2:]).split():
+    best = None
+    for _ in range(3):
+        words = subprocess.run([sys.argv[1], size], capture_output=True, text=True, check=True).stdout.split()
+        times = [int(word) for word in words[:4]]
+        best = times if best is None else [min(pair) for pair in zip(best, times)]
+    first = first or best
+    memory = resource.getrusage(resource.RUSAGE_CHILDREN).ru_maxrss
+    parts = [f'{name} {time} ns ({time / base:.1f})' for name, time, base in zip(('put', 'get', 'rank', 'remove'), best, first)]
+    print(f'{size} files: {", ".join(parts)}; {memory} KiB at most', flush=True)
+REPORT

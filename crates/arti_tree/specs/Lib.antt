@@ -1,0 +1,9 @@
+pub mod Ids
+pub mod Rows
+pub mod Slots
+pub mod Kept
+pub mod Repos
+pub mod Children
+pub mod Adds
+pub mod Chains
+pub mod Searched

@@ -1,0 +1,92 @@
+// Lists of ids that ascend, each id once.
+ghost use Rattle.std.specs.Prelude.{[], ◌∷◌, ◌++◌, ◌≡◌, ◌≢◌, ℕ, ◌+◌, ◌-◌, ◌<◌, ◌≤◌, ◌^◌, ◌⊎◌, length, slice_index, vec_len, vec_capacity, IfOk, IfErr, OnOk, OnErr};
+ghost use Rattle.std.specs.List.{insert};
+ghost use Rattle.arti_tree.specs.Ids.{AscendFrom, IsGap, Lacks, with_id, without_id};
+
+use std::alloc::AllocError;
+
+// Where an id stands in the list, or would stand.
+fn place_in(ids: &[u32], id: u32) -> Result<usize, usize>
+    requires { AscendFrom 0 ids.now }
+    ensures found { IfOk result (λ i. (i < length ids.now) × (slice_index ids.now i ≡ id)) }
+    ensures gap { IfErr result (λ i. IsGap ids.now id i) }
+{
+    ids.binary_search(&id)
+}
+
+/// An id more.
+pub(crate) fn add_id(ids: &mut Vec<u32>, id: u32) -> Result<(), AllocError>
+    requires ascend { AscendFrom 0 ids.old.items }
+    requires absent { Lacks ids.old.items id }
+    ensures more { OnOk result (ids.new.items ≡ with_id id ids.old.items) }
+    ensures unchanged { OnErr result (ids.new.items ≡ ids.old.items) }
+    ensures full { OnErr result (vec_capacity ids.old ≤ vec_len ids.old) }
+{
+    match place_in(ids, id) {
+        Ok(_) => Ok(()),
+        Err(place) => {
+            ids.insert(place, id)?;
+            Ok(())
+        }
+    }
+}
+
+/// An id more, where there is room for one.
+pub(crate) fn add_ready(ids: &mut Vec<u32>, id: u32)
+    requires ascend { AscendFrom 0 ids.old.items }
+    requires absent { Lacks ids.old.items id }
+    requires room { vec_len ids.old < vec_capacity ids.old }
+    ensures { ids.new.items ≡ with_id id ids.old.items }
+{
+    let _ = add_id(ids, id);
+}
+
+/// An id less.
+pub(crate) fn drop_id(ids: &mut Vec<u32>, id: u32)
+    requires { AscendFrom 0 ids.old.items }
+    ensures { ids.new.items ≡ without_id id ids.old.items }
+{
+    if let Ok(place) = place_in(ids, id) {
+        ids.remove(place);
+    }
+}
+
+/// An id at a place, where there is room for one.
+pub(crate) fn insert_ready(ids: &mut Vec<u32>, place: usize, id: u32)
+    requires within { place ≤ vec_len ids.old }
+    requires room { vec_len ids.old < vec_capacity ids.old }
+    ensures { ids.new.items ≡ insert ids.old.items place id }
+{
+    let _ = ids.insert(place, id);
+}
+
+/// An id at the end, where there is room for one.
+pub(crate) fn push_ready(ids: &mut Vec<u32>, id: u32)
+    requires { vec_len ids.old < vec_capacity ids.old }
+    ensures items { ids.new.items ≡ ids.old.items ++ id ∷ [] }
+    ensures len { vec_len ids.new ≡ vec_len ids.old + 1 }
+    ensures capacity { vec_capacity ids.old ≤ vec_capacity ids.new }
+{
+    let _ = ids.push(id);
+}
+
+/// The least number that is no id of the list.
+pub(crate) fn free_id(ids: &[u32]) -> u32
+    requires ascend { AscendFrom 0 ids.now }
+    requires few { length ids.now < 2 ^ 32 }
+    ensures absent { Lacks ids.now result }
+    ensures within { result ≤ length ids.now }
+    ensures next { (result ≡ 0) ⊎ (slice_index ids.now (result - 1) ≡ result - 1) }
+{
+    let mut low = 0usize;
+    let mut high = ids.len();
+    'gap: while low < high {
+        let middle = low + (high - low) / 2;
+        if ids[middle] as usize == middle {
+            low = middle + 1;
+        } else {
+            high = middle;
+        }
+    }
+    low as u32
+}

@@ -1,0 +1,16 @@
+//! The tree of items: which keys are there, in which folder each lies, and its place in the default order.
+#![tactic(auto)]
+
+mod fault;
+mod ids;
+mod lists;
+mod repos;
+mod searching;
+mod slot;
+mod tree;
+
+pub use fault::TreeFault;
+pub use tree::Tree;
+
+#[cfg(test)]
+mod tests;

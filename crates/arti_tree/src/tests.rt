@@ -1,0 +1,161 @@
+// A tree against plain rows.
+use super::*;
+use arti_rows::ItemKey;
+use std::alloc::{AllocError, Global};
+use std::process::Abort;
+use std::test::Fail;
+
+#[derive(Drop)]
+struct Plain {
+    id: u32,
+    key: ItemKey,
+    is_file: bool,
+}
+
+#[derive(Clone, Copy, Debug, PartialEq, Eq)]
+enum Answer {
+    Added(usize),
+    FileAbove,
+    Taken,
+    Full,
+    Memory,
+    Removed,
+    Stays,
+}
+
+#[derive(Clone, Copy)]
+enum Step {
+    Put(bool, u32),
+    Remove,
+}
+
+#[test]
+fn each_list_is_that_of_plain_rows(rt: HostRuntime) -> Result<(), Fail> {
+    let file = Step::Put(true, 8);
+    let folder = Step::Put(false, 8);
+    let alloc = rt.alloc();
+    let mut tree = Tree::new(alloc)?;
+    let mut rows = Vec::new(alloc);
+    for (step, repo, whole, answer) in [
+        (file, "b", "f/g/x", Answer::Added(3)),
+        (file, "b", "f/g/y", Answer::Added(1)),
+        (folder, "b", "f/g", Answer::Taken),
+        (file, "b", "f/g/x/z", Answer::FileAbove),
+        (file, "a", "x", Answer::Added(1)),
+        (folder, "b", "f/g-/a", Answer::Added(2)),
+        (Step::Remove, "b", "f/g", Answer::Stays),
+        (Step::Remove, "b", "f/g/x", Answer::Removed),
+        (Step::Remove, "b", "f/g/x", Answer::Stays),
+        (folder, "b", "f/h", Answer::Added(1)),
+        (Step::Put(true, 9), "c", "p/q/r", Answer::Full),
+        (Step::Put(true, 10), "c", "p/q/r", Answer::Added(3)),
+        (Step::Remove, "b", "f/g/y", Answer::Removed),
+        (Step::Remove, "b", "f/g", Answer::Removed),
+        (Step::Remove, "a", "x", Answer::Removed),
+        (Step::Put(true, 8), "a", "y/z", Answer::Full),
+        (Step::Put(true, 9), "a", "y/z", Answer::Added(2)),
+    ] {
+        let key = ItemKey::new(alloc, repo, whole)?;
+        let given = match step {
+            Step::Put(is_file, limit) => put(alloc, &mut tree, &mut rows, key, is_file, limit)?,
+            Step::Remove => remove(&mut tree, &mut rows, &key),
+        };
+        assert_eq!(rt; given, answer, "{repo}/{whole}");
+        compare(&rt, alloc, &tree, rows.as_slice())?;
+    }
+    Ok(())
+}
+
+// A key is put, into the plain rows too.
+fn put(
+    alloc: Global,
+    tree: &mut Tree,
+    rows: &mut Vec<Plain>,
+    key: ItemKey,
+    is_file: bool,
+    limit: u32,
+) -> Result<Answer, AllocError> {
+    let mut keys = key.folders(alloc)?;
+    keys.push(key.clone()?)?;
+    let last = key.clone()?;
+    let ids = match tree.put(alloc, key, is_file, limit) {
+        Ok(ids) => ids,
+        Err(TreeFault::FileAbove(_)) => return Ok(Answer::FileAbove),
+        Err(TreeFault::Taken) => return Ok(Answer::Taken),
+        Err(TreeFault::Full) => return Ok(Answer::Full),
+        Err(TreeFault::Memory) => return Ok(Answer::Memory),
+    };
+    let count = ids.len();
+    let mut ids = ids.into_iter();
+    for key in keys {
+        if has(rows.as_slice(), &key) {
+            continue;
+        }
+        if let Some(id) = ids.next() {
+            let is_file = is_file && key == last;
+            rows.push(Plain { id, key, is_file })?;
+        }
+    }
+    Ok(Answer::Added(count))
+}
+
+fn has(rows: &[Plain], key: &ItemKey) -> bool {
+    rows.iter().any(|row| row.key == *key)
+}
+
+// The row of a key is removed, from the plain rows too.
+fn remove(tree: &mut Tree, rows: &mut Vec<Plain>, key: &ItemKey) -> Answer {
+    let id = tree.get(key).unwrap_or(1_000);
+    if !tree.remove(id) {
+        return Answer::Stays;
+    }
+    rows.retain(|row| row.id != id);
+    Answer::Removed
+}
+
+fn compare(rt: &impl Abort, alloc: Global, tree: &Tree, rows: &[Plain]) -> Result<(), AllocError> {
+    let mut all = Vec::new(alloc);
+    for row in rows {
+        all.push(row.id)?;
+        assert_eq!(rt; tree.get(&row.key), Some(row.id));
+        let key = tree.key(row.id);
+        assert!(rt; matches!(key, Some(key) if *key == row.key));
+        assert_eq!(rt; tree.is_file(row.id), row.is_file);
+        let before = rows.iter().filter(|other| other.key < row.key).count();
+        assert_eq!(rt; tree.rank(row.id).map(|rank| rank as usize), Some(before));
+        let inside = in_folder(alloc, rows, &row.key)?;
+        assert!(rt; tree.children(&row.key) == inside.as_slice());
+    }
+    all.sort_unstable();
+    assert!(rt; tree.all() == all.as_slice());
+    for repo in ["a", "b", "c", "d"] {
+        let of = in_repo(alloc, rows, repo)?;
+        assert!(rt; tree.in_repo(repo) == of.as_slice());
+    }
+    assert_eq!(rt; tree.rank(1_000), None);
+    assert!(rt; tree.key(1_000).is_none());
+    Ok(())
+}
+
+fn in_folder(alloc: Global, rows: &[Plain], key: &ItemKey) -> Result<Vec<u32>, AllocError> {
+    let mut ids = Vec::new(alloc);
+    for row in rows {
+        let folders = row.key.folders(alloc)?;
+        if matches!(folders.last(), Some(folder) if *folder == *key) {
+            ids.push(row.id)?;
+        }
+    }
+    ids.sort_unstable();
+    Ok(ids)
+}
+
+fn in_repo(alloc: Global, rows: &[Plain], repo: &str) -> Result<Vec<u32>, AllocError> {
+    let mut ids = Vec::new(alloc);
+    for row in rows {
+        if row.key.repo.as_str() == repo {
+            ids.push(row.id)?;
+        }
+    }
+    ids.sort_unstable();
+    Ok(ids)
+}

@@ -1,0 +1,368 @@
+// The rows of the tree and the lists that are kept of them.
+ghost use Rattle.std.specs.Prelude.{◌≡◌, ◌≢◌, ◌-◌, ◌&&◌, drop, slice_index_or, IfErr, ◌<◌, ◌≤◌, ◌+◌, ◌^◌, vec_len, vec_capacity, List, [], length, if◌then◌else◌, map, option_map, IfOk, IfSome, IsSome, OnOk, OnErr, Some, None, false};
+ghost use Rattle.std.specs.Option.{option_map_or, is_none};
+ghost use Rattle.std.specs.List.{filter, find};
+ghost use Rattle.arti_tree.specs.Rows.{Row, ids, row_of, row_at, lies_in, is_of, rank_of, folder_id, with_row, without_row, may_go, HasFolder, IsFolder, IsTree};
+ghost use Rattle.arti_tree.specs.Slots.{row_with};
+ghost use Rattle.arti_tree.specs.Searched.{key};
+ghost use Rattle.arti_tree.specs.Adds.{is_end, is_missing, is_file_at, keys_added, put_fault, Adds};
+ghost use Rattle.arti_rows.specs.Key.{folders_above};
+ghost use Rattle.arti_tree.specs.Chains.{CanAdd, Pushes};
+
+use crate::TreeFault;
+use crate::ids::{add_ready, drop_id, free_id, insert_ready, push_ready};
+use crate::lists::{enter_both, leave_folder, make_list};
+use crate::repos::{Repos, ids_of, leave};
+use crate::searching::{cut, place_of};
+use crate::slot::{Slot, empty, fill, make_room, slot_of};
+use arti_rows::ItemKey;
+use std::alloc::{AllocError, Global};
+use std::collections::BTreeMap;
+use std::marker::Model;
+
+/// The live rows, each a key under an id. Contracts see them as a list that ascends by id.
+#[derive(Drop)]
+pub struct Tree {
+    // By id, those that are gone left empty.
+    slots: Vec<Option<Slot>>,
+    all: Vec<u32>,
+    // By the default order of their keys.
+    order: Vec<u32>,
+    // The rows that lie in each folder, by its id.
+    children: Vec<Vec<u32>>,
+    repos: Repos,
+}
+
+impl Model for Tree {
+    ghost use Rattle.std.specs.Prelude.{List, map};
+    ghost use Rattle.arti_tree.specs.Rows.{Row};
+
+    ghost Value = { List Row };
+
+    ghost use Rattle.arti_tree.specs.Slots.{live};
+    ghost use Rattle.arti_tree.specs.Kept.{Kept};
+    ghost use Rattle.arti_tree.specs.Repos.{list_of};
+
+    ghost view = { λ t. live 0 t.slots.items };
+
+    ghost invariant = { λ t. Kept t.slots.items t.all.items t.order.items (map (λ v. v.items) t.children.items) (list_of t.repos) };
+}
+
+impl Tree {
+    /// No rows.
+    pub fn new(alloc: Global) -> Result<Tree, AllocError>
+        ensures { IfOk result (λ t. t ≡ []) }
+    {
+        Ok(Tree {
+            slots: Vec::new(alloc),
+            all: Vec::new(alloc),
+            order: Vec::new(alloc),
+            children: Vec::new(alloc),
+            repos: BTreeMap::new(alloc),
+        })
+    }
+
+    /// What holds of the rows of each tree.
+    pub fn rules(&self)
+        ensures { IsTree self.now }
+    {
+        let _ = &self.slots;
+    }
+
+    /// The id of a key.
+    pub fn get(&self, key: &ItemKey) -> Option<u32>
+        ensures { result ≡ option_map (λ r. r.id) (row_at self.now key.now) }
+    {
+        match self.find(key.repo.as_str(), key.path.as_str(), key.name.as_str()) {
+            Some((id, _)) => Some(id),
+            None => None,
+        }
+    }
+
+    /// The key of an id.
+    pub fn key(&self, id: u32) -> Option<&ItemKey>
+        ensures { option_map (λ k. k.now) result ≡ option_map (λ r. r.key) (row_of self.now id) }
+    {
+        match self.slot(id) {
+            Some(slot) => Some(&slot.key),
+            None => None,
+        }
+    }
+
+    /// Whether an id is that of a file.
+    pub fn is_file(&self, id: u32) -> bool
+        ensures { result ≡ option_map_or (λ r. r.is_file) (row_of self.now id) false }
+    {
+        match self.slot(id) {
+            Some(slot) => slot.is_file,
+            None => false,
+        }
+    }
+
+    /// How many rows come before that of an id in the default order.
+    pub fn rank(&self, id: u32) -> Option<u32>
+        ensures { result ≡ option_map (λ r. rank_of self.now r.key) (row_of self.now id) }
+    {
+        self.rules();
+        let key = self.key(id)?;
+        match self.find(key.repo.as_str(), key.path.as_str(), key.name.as_str()) {
+            Some((_, rank)) => Some(rank),
+            None => None,
+        }
+    }
+
+    /// The rows that lie in a folder, with nothing between.
+    pub fn children(&self, key: &ItemKey) -> &[u32]
+        ensures { result.now ≡ ids (filter (lies_in key.now) self.now) }
+    {
+        match self.get(key) {
+            Some(id) => self.children[id as usize].as_slice(),
+            None => &[],
+        }
+    }
+
+    /// All rows.
+    pub fn all(&self) -> &[u32]
+        ensures { result.now ≡ ids self.now }
+    {
+        self.all.as_slice()
+    }
+
+    /// The rows of a repository.
+    pub fn in_repo(&self, repo: &str) -> &[u32]
+        ensures { result.now ≡ ids (filter (is_of repo.now) self.now) }
+    {
+        ids_of(&self.repos, repo)
+    }
+
+    // What is kept under an id.
+    fn slot(&self, id: u32) -> Option<&Slot>
+        ensures { option_map (λ s. row_with id s.now) result ≡ row_of self.now id }
+    {
+        slot_of(&self.slots, id)
+    }
+
+    // The id and the rank of the key of these parts.
+    fn find(&self, repo: &str, path: &str, name: &str) -> Option<(u32, u32)>
+        ensures { result ≡ option_map (λ r. (r.id, rank_of self.now r.key)) (row_at self.now (key repo.now path.now name.now)) }
+    {
+        match place_of(&self.slots, &self.order, repo, path, name) {
+            Ok(place) => Some((self.order[place], place as u32)),
+            Err(_) => None,
+        }
+    }
+
+    // The id of the folder that an item lies in.
+    fn folder(&self, key: &ItemKey) -> Option<u32>
+        ensures { result ≡ folder_id self.now key.now }
+    {
+        if key.path.as_str() == "." {
+            return None;
+        }
+        let (path, name) = cut(key.path.as_str());
+        match self.find(key.repo.as_str(), path, name) {
+            Some((id, _)) => Some(id),
+            None => None,
+        }
+    }
+
+    // The id of the folder that the row of an id lies in.
+    fn folder_under(&self, id: u32) -> Option<u32>
+        ensures { IfSome (row_of self.now id) (λ r. result ≡ folder_id self.now r.key) }
+    {
+        match self.key(id) {
+            Some(key) => self.folder(key),
+            None => None,
+        }
+    }
+
+    // A row more, whose key isn't there and whose folder is.
+    fn add(&mut self, alloc: Global, key: ItemKey, is_file: bool) -> Result<u32, AllocError>
+        requires absent { row_at self.old key ≡ None }
+        requires folder { HasFolder self.old key }
+        requires few { length self.old + 1 < 2 ^ 32 }
+        ensures fresh { IfOk result (λ id. row_of self.old id ≡ None) }
+        ensures added { IfOk result (λ id. self.new ≡ with_row (record { id = id; key = key; is_file = is_file }) self.old) }
+        ensures unchanged { OnErr result (self.new ≡ self.old) }
+    {
+        key.rules();
+        let folder = self.folder(&key);
+        let Err(place) = place_of(
+            &self.slots,
+            &self.order,
+            key.repo.as_str(),
+            key.path.as_str(),
+            key.name.as_str(),
+        ) else {
+            unreachable!();
+        };
+        let id = free_id(&self.all);
+        make_room(&mut self.slots, &mut self.all, &mut self.order)?;
+        make_list(&mut self.children, alloc, id)?;
+        enter_both(
+            &mut self.children,
+            &mut self.repos,
+            alloc,
+            folder,
+            key.repo.as_str(),
+            id,
+        )?;
+        insert_ready(&mut self.order, place, id);
+        add_ready(&mut self.all, id);
+        fill(&mut self.slots, id, Slot { key, is_file });
+        Ok(id)
+    }
+
+    // A row less, in which no row lies.
+    fn drop_row(&mut self, id: u32)
+        requires live { IsSome (row_of self.old id) }
+        requires empty { IfSome (row_of self.old id) (λ r. find (lies_in r.key) self.old ≡ None) }
+        ensures { self.new ≡ without_row id self.old }
+    {
+        let folder = self.folder_under(id);
+        let Some(slot) = slot_of(&self.slots, id) else {
+            unreachable!();
+        };
+        let Ok(place) = place_of(
+            &self.slots,
+            &self.order,
+            slot.key.repo.as_str(),
+            slot.key.path.as_str(),
+            slot.key.name.as_str(),
+        ) else {
+            unreachable!();
+        };
+        leave(&mut self.repos, slot.key.repo.as_str(), id);
+        leave_folder(&mut self.children, folder, id);
+        self.order.remove(place);
+        drop_id(&mut self.all, id);
+        empty(&mut self.slots, id);
+    }
+
+    /// A row is removed where it is live and nothing lies beneath it.
+    pub fn remove(&mut self, id: u32) -> bool
+        ensures value { result ≡ may_go self.old id }
+        ensures rows { self.new ≡ (if result then without_row id self.old else self.old) }
+    {
+        self.rules();
+        if !self.is_childless(id) {
+            return false;
+        }
+        self.drop_row(id);
+        true
+    }
+
+    // Whether a row is live and nothing lies in it.
+    fn is_childless(&self, id: u32) -> bool
+        ensures { result ≡ option_map_or (λ r. is_none (find (lies_in r.key) self.now)) (row_of self.now id) false }
+    {
+        match slot_of(&self.slots, id) {
+            Some(_) => self.children[id as usize].is_empty(),
+            None => false,
+        }
+    }
+
+    // Keys are added in order, each a folder but for the last, or none of them is.
+    fn add_all(
+        &mut self,
+        alloc: Global,
+        mut keys: Vec<ItemKey>,
+        is_file: bool,
+        ids: &mut Vec<u32>,
+    ) -> Result<(), AllocError>
+        requires can { CanAdd self.old keys.items }
+        requires few { length self.old + length keys.items < 2 ^ 32 }
+        requires room { vec_len ids.old + length keys.items ≤ vec_capacity ids.old }
+        ensures added { OnOk result (Pushes self.old keys.items is_file ids.old.items ids.new.items self.new) }
+        ensures unchanged { OnErr result (self.new ≡ self.old) }
+    {
+        if keys.is_empty() {
+            return Ok(());
+        }
+        self.rules();
+        let key = keys.remove(0);
+        let as_file = is_last_file(is_file, &keys);
+        let id = self.add(alloc, key, as_file)?;
+        push_ready(ids, id);
+        if let Err(error) = self.add_all(alloc, keys, is_file, ids) {
+            self.drop_row(id);
+            return Err(error);
+        }
+        Ok(())
+    }
+
+    /// The key is added, and the folders above it that are missing. The ids of the added keys, the topmost folder first.
+    pub fn put(
+        &mut self,
+        alloc: Global,
+        key: ItemKey,
+        file: bool,
+        limit: u32,
+    ) -> Result<Vec<u32>, TreeFault>
+        ensures ok { OnOk result (put_fault self.old key limit ≡ None) }
+        ensures added { IfOk result (λ ids. Adds self.old (keys_added self.old key) file ids.items self.new) }
+        ensures fault { IfErr result (λ e. e ≢ TreeFault.Memory → put_fault self.old key limit ≡ Some e) }
+        ensures unchanged { OnErr result (self.new ≡ self.old) }
+    {
+        self.rules();
+        key.rules();
+        let mut folders = key.folders(alloc)?;
+        let there = match self.there(&key, &folders) {
+            Ok(there) => there,
+            Err(place) => return Err(TreeFault::FileAbove(folders.remove(place))),
+        };
+        if self.get(&key).is_some() {
+            return Err(TreeFault::Taken);
+        }
+        drop_front(&mut folders, there);
+        if folders.push(key).is_err() {
+            return Err(TreeFault::Memory);
+        }
+        if self.all.len() + folders.len() > limit as usize {
+            return Err(TreeFault::Full);
+        }
+        let mut ids = Vec::with_capacity(alloc, folders.len())?;
+        self.add_all(alloc, folders, file, &mut ids)?;
+        Ok(ids)
+    }
+
+    // How many of the folders above a key are there, or where a file stands among them.
+    fn there(&self, key: &ItemKey, folders: &[ItemKey]) -> Result<usize, usize>
+        requires { folders.now ≡ folders_above key.now }
+        ensures within { IfOk result (λ n. n ≤ length folders.now) }
+        ensures missing { IfOk result (λ n. filter (is_missing self.now) folders.now ≡ drop n folders.now) }
+        ensures no_file { OnOk result (find (is_file_at self.now) folders.now ≡ None) }
+        ensures last { IfOk result (λ n. 0 < n → IsFolder self.now (slice_index_or folders.now (n - 1) key.now)) }
+        ensures at_file { IfErr result (λ i. i < length folders.now) }
+        ensures file { IfErr result (λ i. find (is_file_at self.now) folders.now ≡ Some (slice_index_or folders.now i key.now)) }
+    {
+        self.rules();
+        key.rules();
+        let mut there = folders.len();
+        'up: while there > 0 {
+            match self.get(&folders[there - 1]) {
+                Some(id) if self.is_file(id) => return Err(there - 1),
+                Some(_) => return Ok(there),
+                None => there -= 1,
+            }
+        }
+        Ok(0)
+    }
+}
+
+// Without the first keys.
+fn drop_front(keys: &mut Vec<ItemKey>, count: usize)
+    requires { count ≤ length keys.old.items }
+    ensures { keys.new.items ≡ drop count keys.old.items }
+{
+    for _i in 0..count {
+        keys.remove(0);
+    }
+}
+
+// Whether a key is that of a file, with these to come.
+fn is_last_file(is_file: bool, rest: &[ItemKey]) -> bool
+    ensures { result ≡ is_file && is_end rest.now }
+{
+    is_file && rest.is_empty()
+}
