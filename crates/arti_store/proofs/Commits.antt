@@ -1,0 +1,284 @@
+-- What a change more makes, and what a crash leaves while it is committed.
+use Rattle.std.proofs.Common.{◌≡◌, inl, inr, ⊎_elim, ℕ, ◌+◌, ◌^◌, ◌<◌, ◌≤◌, Bool, true, false, cond, List, [], ◌∷◌, ◌++◌, length, get_or, take, Option, Some, None, refl, sym, ◌∙◌, ap, subst, arith, length-append}
+use Rattle.std.specs.Prelude.{All, Contains, map, IfSome, IsTrue}
+use Rattle.std.specs.List.{AllZip}
+use Rattle.std.specs.Int.{w32, to_be_bytes}
+use Rattle.std.proofs.lemmas.Bool.{cases_eq, false≢true}
+use Rattle.std.proofs.lemmas.List.{get_or_default}
+use Rattle.std.proofs.lemmas.List.Elements.{Contains-push_cases}
+use Rattle.arti_rows.specs.declared.limits.Limits.{Limits}
+use Rattle.arti_rows.specs.declared.rows.FileRef.{FileRef}
+use Rattle.arti_rows.specs.declared.rows.ItemRow.{ItemRow}
+use Rattle.arti_rows.specs.declared.edits.Change.{Change}
+use Rattle.arti_rows.specs.declared.refusal.Refusal.{Refusal}
+use Rattle.arti_ground.specs.State.{Bytes, State, IsDurable, LeavesDisk, Passes, Follows}
+use Rattle.arti_ground.proofs.Moments.{passes_map}
+use Rattle.arti_journal.specs.Journal.{StandsFor, HoldsJournal, IsBefore, IsAfter, Appending, Appended, header, opened_record, records, opened}
+use Rattle.arti_blobs.specs.declared.staging.Staged.{Staged}
+use Rattle.arti_blobs.specs.declared.staging.Staging.{Staging}
+use Rattle.arti_blobs.specs.Contents.{Contents, content, end_of, Keeps, kept_with, staged_length, HoldsContents, KeepsFront, Behind}
+use Rattle.arti_codec.specs.ChangeBytes.{ChangeBytes}
+use Rattle.arti_model.specs.Store.{File}
+use Rattle.arti_model.specs.Apply.{Holding, nothing_kept, apply, apply_all, refusal}
+use Rattle.arti_store.specs.Items.{file_in, items_in, HasFileIn}
+use Rattle.arti_store.specs.Changes.{references_of, references}
+use Rattle.arti_store.specs.Edited.{rows_edited_by}
+use Rattle.arti_store.specs.Store.{View, holding_of, Accepted, AreDistinct, Makes, Stands, HoldsOpen, HoldsStore, Standing, kept_and, MayKeep, IsFresh, IsStaged, IsAdded, AddsSome, Committing}
+use Rattle.arti_store.proofs.References.{end_push, keeps_then, keeps_none, keeps_one, references-push, fresh_not_kept, distinct_push}
+use Rattle.arti_store.proofs.Holdings.{makes_stays, seen_stays, change_seen}
+
+-- ---- one change more
+
+apply_all-push : (g : FileRef → File) (changes : List Change) (change : Change) (h : Holding) → apply_all g (changes ++ change ∷ []) h ≡ apply g change (apply_all g changes h)
+apply_all-push g [] change h = refl
+apply_all-push g (c ∷ changes) change h = apply_all-push g changes change (apply g c h)
+
+accepted_push : (limits : Limits) (g : FileRef → File) (changes : List Change) (change : Change) (h : Holding) → Accepted limits g changes h → refusal limits g change (apply_all g changes h) ≡ None → Accepted limits g (changes ++ change ∷ []) h
+accepted_push limits g [] change h accepted none = (none, tt)
+accepted_push limits g (c ∷ changes) change h accepted none = (accepted.0, accepted_push limits g changes change (apply g c h) accepted.1 none)
+
+zip_push : (bodies : List (List ℕ)) (changes : List Change) (body : List ℕ) (change : Change) → AllZip ChangeBytes bodies changes → ChangeBytes body change → AllZip ChangeBytes (bodies ++ body ∷ []) (changes ++ change ∷ [])
+zip_push [] [] body change each one = (one, tt)
+zip_push [] (c ∷ changes) body change each one = absurd each
+zip_push (b ∷ bodies) [] body change each one = absurd each
+zip_push (b ∷ bodies) (c ∷ changes) body change each one = (each.0, zip_push bodies changes body change each.1 one)
+
+-- what is kept with the contents that a change names
+pub record IsKept (bytes : List ℕ) (kept all files : List FileRef) : Type 0 where
+  pub keeps : Keeps kept files all
+  pub distinct : AreDistinct bytes all
+  pub within : end_of all ≤ length bytes
+  pub short : end_of all ≤ 2 ^ 62
+
+pub makes_push : (limits : Limits) (changes : List Change) (bytes : List ℕ) (kept all : List FileRef) (h : Holding) (change : Change) → Makes limits changes bytes kept h → refusal limits (file_in bytes) change h ≡ None
+    → IsKept bytes kept all (references_of change.edits) → Makes limits (changes ++ change ∷ []) bytes all (apply (file_in bytes) change h)
+makes_push limits changes bytes kept all h change makes none more = record {
+  accepted = accepted_push limits (file_in bytes) changes change nothing_kept makes.accepted (subst (λ (x : Holding). refusal limits (file_in bytes) change x ≡ None) makes.made none);
+  made = ap (apply (file_in bytes) change) makes.made ∙ sym (apply_all-push (file_in bytes) changes change nothing_kept);
+  refer = subst (λ (l : List FileRef). Keeps [] l all) (sym (references-push changes change)) (keeps_then (references changes) (references_of change.edits) [] kept all makes.refer more.keeps);
+  distinct = more.distinct;
+  within = more.within;
+  short = more.short;
+}
+
+-- ---- what is kept with a staged content
+
+module _ (bytes : List ℕ) (contents : Contents) (files : List FileRef) (distinct : AreDistinct bytes contents.kept) (within : end_of contents.kept ≤ length bytes) (short : end_of contents.kept ≤ 2 ^ 62) where
+  abbrev kept : List FileRef
+  kept = contents.kept
+
+  nothing_more : All (Contains kept) files → IsKept bytes kept kept files
+  nothing_more named = record { keeps = keeps_none files kept named; distinct = distinct; within = within; short = short }
+
+  -- each of them is kept already, where none is the staged one
+  only_kept : (staged : Staged) (fresh : Bool) → staged.fresh ≡ fresh → (IsAdded files (Some staged) staged → ⊥) → All (Contains (cond fresh (kept ++ staged.file ∷ []) kept)) files → All (Contains kept) files
+  only_kept staged false is not_added named = named
+  only_kept staged true is not_added named = λ k d lt.
+      let file = get_or files k d in
+      ⊎_elim
+      (λ old. old)
+      (λ (same : staged.file ≡ file). absurd (not_added (record { is = refl; fresh = is; named = (k, lt, get_or_default files k staged.file d lt ∙ sym same) })))
+      (Contains-push_cases kept staged.file file (named k d lt))
+
+  kept_by : (content added : Option Staged) → All (Contains (kept_and kept content)) files → AddsSome files content added → IsStaged bytes kept content → MayKeep contents content
+      → IfSome added (λ s. end_of kept + s.file.len ≤ 2 ^ 62) → IsKept bytes kept (kept_and kept added) files
+  kept_by None None named adds staged may room = nothing_more named
+  kept_by (Some s) None named adds staged may room =
+      nothing_more (only_kept s s.fresh refl (adds s) named)
+  kept_by content (Some s) named adds staged may room =
+      let fresh : s.fresh ≡ true = adds.fresh in
+      let is_fresh : IsFresh bytes kept s.file = subst (λ (o : Option Staged). IsStaged bytes kept o) adds.is staged fresh in
+      let its : MayKeep contents (Some s) = subst (λ (o : Option Staged). MayKeep contents o) adds.is may in
+      let all : kept_with kept s ≡ kept ++ s.file ∷ [] = ap (λ b. cond b (kept ++ s.file ∷ []) kept) fresh in
+      let names : All (Contains (kept ++ s.file ∷ [])) files = subst (λ (l : List FileRef). All (Contains l) files) all (subst (λ (o : Option Staged). All (Contains (kept_and kept o)) files) adds.is named) in
+      subst (λ (l : List FileRef). IsKept bytes kept l files) (sym all) (record {
+        keeps = keeps_one files kept s.file names adds.named (fresh_not_kept bytes kept s.file is_fresh) (its.1 fresh);
+        distinct = distinct_push bytes kept s.file is_fresh distinct;
+        within = omega (arith, end_push kept s.file, is_fresh.whole);
+        short = omega (arith, end_push kept s.file, room);
+      })
+
+-- ---- the length of a journal
+
+records-push : (bodies : List (List ℕ)) (body : List ℕ) → length (records (bodies ++ body ∷ [])) ≡ length (records bodies) + length body + 5
+records-push [] body = omega (arith, length-append (1 ∷ to_be_bytes w32 (length body) ++ body) [], length-append (1 ∷ to_be_bytes w32 (length body)) body)
+records-push (b ∷ bodies) body =
+    let one = 1 ∷ to_be_bytes w32 (length b) ++ b in
+    omega (arith, records-push bodies body, length-append one (records bodies), length-append one (records (bodies ++ body ∷ [])))
+
+pub length-opened : (bodies : List (List ℕ)) (body : List ℕ) → length (opened (bodies ++ body ∷ [])) ≡ length (opened bodies) + length body + 5
+length-opened bodies body = omega (arith, records-push bodies body, length-append header (records bodies), length-append header (records (bodies ++ body ∷ [])))
+
+-- ---- images
+
+pub image_stands : (s : State) (v : View) → HoldsOpen s v → (c : Bytes) → s.may_leave c → Stands v.limits c (holding_of (s.files 3) v) v.used
+image_stands s v holds c left = record {
+  bodies = holds.bodies;
+  changes = holds.changes;
+  kept = v.contents.kept;
+  journal = inr (holds.journal.images c left);
+  each = holds.each;
+  makes = holds.images c left;
+  used_is = holds.journal.length_is;
+}
+
+pub read_stands : (s : State) (v : View) → HoldsOpen s v → Stands v.limits s.files (holding_of (s.files 3) v) v.used
+read_stands s v holds = record {
+  bodies = holds.bodies;
+  changes = holds.changes;
+  kept = v.contents.kept;
+  journal = inr holds.journal.reads;
+  each = holds.each;
+  makes = holds.reads;
+  used_is = holds.journal.length_is;
+}
+
+-- ---- calls that leave what is kept
+
+module _ (old new : State) (v : View) (staging : Option Staging) (has : All (HasFileIn v.contents.kept) v.rows) (holds : HoldsOpen old v) where
+  abbrev later : View
+  later = record v { contents = record { kept = v.contents.kept; staging = staging } }
+
+  abbrev end : ℕ
+  end = end_of v.contents.kept
+
+  pub holding_stays : KeepsFront end old.files new.files → holding_of (new.files 3) later ≡ holding_of (old.files 3) v
+  holding_stays front = seen_stays (old.files 3) (new.files 3) (references holds.changes) v.contents.kept holds.reads.refer front.here v.rows has
+
+  pub store_stays : KeepsFront end old.files new.files → Follows (KeepsFront end) old new → HoldsContents new later.contents → HoldsOpen new later
+  store_stays front images contents =
+      let same = holding_stays front in
+      let limits = v.limits in
+      record {
+        bodies = holds.bodies;
+        changes = holds.changes;
+        journal = record {
+          reads = subst (λ (b : List ℕ). StandsFor holds.bodies b) (sym (front.others 1 (omega arith))) holds.journal.reads;
+          images = λ c left. let was = images c left in subst (λ (b : List ℕ). StandsFor holds.bodies b) (sym (was.2.others 1 (omega arith))) (holds.journal.images was.0 was.1);
+          length_is = holds.journal.length_is;
+        };
+        each = holds.each;
+        reads = subst (λ (h : Holding). Makes limits holds.changes (new.files 3) v.contents.kept h) (sym same)
+            (makes_stays limits holds.changes (old.files 3) (new.files 3) v.contents.kept (holding_of (old.files 3) v) front.here holds.reads);
+        images = λ c left.
+            let was = images c left in
+            subst (λ (h : Holding). Makes limits holds.changes (c 3) v.contents.kept h) (sym same)
+            (makes_stays limits holds.changes (was.0 3) (c 3) v.contents.kept (holding_of (old.files 3) v) was.2.here (holds.images was.0 was.1));
+        contents = contents;
+      }
+
+  pub standing : Passes old new (Behind old end) → Passes old new (Standing old v)
+  standing passes = passes_map old new (Behind old end) (Standing old v) (λ c w here. record {
+      told = here.told;
+      image = record {
+        bodies = holds.bodies;
+        changes = holds.changes;
+        kept = v.contents.kept;
+        journal = inr (subst (λ (b : List ℕ). StandsFor holds.bodies b) (sym (here.front.others 1 (omega arith))) (holds.journal.images here.from here.was));
+        each = holds.each;
+        makes = makes_stays v.limits holds.changes (here.from 3) (c 3) v.contents.kept (holding_of (old.files 3) v) here.front.here (holds.images here.from here.was);
+        used_is = holds.journal.length_is;
+      };
+    }) passes
+
+-- calls that read leave it too
+pub reads_front : (end : ℕ) (old new : State) → LeavesDisk old new → KeepsFront end old.files new.files × Follows (KeepsFront end) old new
+reads_front end old new disk = (
+  record { here = ap (λ (b : Bytes). take end (b 3)) disk.files; others = λ f ne. ap (λ (b : Bytes). b f) disk.files },
+  λ c left. (c, disk.images c left, record { here = refl; others = λ f ne. refl }),
+)
+
+-- a call that leaves the disk leaves the store
+pub disk_stays : (old new : State) (v : View) → LeavesDisk old new → HoldsOpen old v → HoldsOpen new v
+disk_stays old new v disk holds =
+    let third : new.files 3 ≡ old.files 3 = ap (λ (b : Bytes). b 3) disk.files in
+    record {
+      bodies = holds.bodies;
+      changes = holds.changes;
+      journal = record {
+        reads = subst (λ (b : Bytes). StandsFor holds.bodies (b 1)) (sym disk.files) holds.journal.reads;
+        images = λ c left. holds.journal.images c (disk.images c left);
+        length_is = holds.journal.length_is;
+      };
+      each = holds.each;
+      reads = subst (λ (b : List ℕ). Makes v.limits holds.changes b v.contents.kept (holding_of b v)) (sym third) holds.reads;
+      images = λ c left. subst (λ (b : List ℕ). Makes v.limits holds.changes (c 3) v.contents.kept (holding_of b v)) (sym third) (holds.images c (disk.images c left));
+      contents = omega (arith, holds.contents, ap length third);
+    }
+
+-- ---- a commit
+
+module _ (start end : State) (v : View) (change : Change) (body : List ℕ) (all : List FileRef) (holds : HoldsOpen start v) (one : ChangeBytes body change)
+    (none : refusal v.limits (file_in (start.files 3)) change (holding_of (start.files 3) v) ≡ None) (more : IsKept (start.files 3) v.contents.kept all (references_of change.edits)) where
+  abbrev bytes : List ℕ
+  bytes = start.files 3
+
+  abbrev before : Holding
+  before = holding_of bytes v
+
+  abbrev after : Holding
+  after = apply (file_in bytes) change before
+
+  abbrev longer : ℕ
+  longer = v.used + 5 + length body
+
+  used_then : longer ≡ length (opened (holds.bodies ++ body ∷ [])) + 1
+  used_then = omega (arith, length-opened holds.bodies body, holds.journal.length_is)
+
+  made : Makes v.limits (holds.changes ++ change ∷ []) bytes all after
+  made = makes_push v.limits holds.changes bytes v.contents.kept all before change holds.reads none more
+
+  pub moment_of : (c w : Bytes) → Appending start 1 holds.bodies body c w → Committing start v.limits before after v.used longer c w
+  moment_of c w at = record {
+    told = at.told;
+    image = ⊎_elim
+        (λ was. inl (record {
+          bodies = holds.bodies;
+          changes = holds.changes;
+          kept = v.contents.kept;
+          journal = inr was.stands;
+          each = holds.each;
+          makes = subst (λ (b : List ℕ). Makes v.limits holds.changes b v.contents.kept before) (sym (was.others 3 (omega arith))) (holds.images was.from was.was);
+          used_is = holds.journal.length_is;
+        }))
+        (λ now. inr (record {
+          bodies = holds.bodies ++ body ∷ [];
+          changes = holds.changes ++ change ∷ [];
+          kept = all;
+          journal = inr now.stands;
+          each = zip_push holds.bodies holds.changes body change holds.each one;
+          makes = subst (λ (b : List ℕ). Makes v.limits (holds.changes ++ change ∷ []) b all after) (sym (now.others 3 (omega arith))) made;
+          used_is = used_then;
+        }))
+        at.image;
+  }
+
+  pub moments_of : Passes start end (Appending start 1 holds.bodies body) → Passes start end (Committing start v.limits before after v.used longer)
+  moments_of passes = passes_map start end (Appending start 1 holds.bodies body) (Committing start v.limits before after v.used longer) moment_of passes
+
+  module _ (next : View) (rows_are : next.rows ≡ rows_edited_by change.moment change.user change.edits v.rows) (kept_is : next.contents.kept ≡ all)
+      (staging : next.contents.staging ≡ None) (limits : next.limits ≡ v.limits) (used : next.used ≡ longer) (third : end.files 3 ≡ bytes) where
+    pub holding_then : holding_of (end.files 3) next ≡ after
+    holding_then =
+        ap (λ (b : List ℕ). holding_of b next) third
+        ∙ ap (λ (l : List ItemRow). record { repository = record { items = items_in bytes l }; kept = map (file_in bytes) next.contents.kept }) rows_are
+        ∙ ap (λ (l : List FileRef). record { repository = record { items = items_in bytes (rows_edited_by change.moment change.user change.edits v.rows) }; kept = map (file_in bytes) l }) kept_is
+        ∙ sym (change_seen bytes change v.rows v.contents.kept all more.keeps more.distinct)
+
+    made_then : Makes next.limits (holds.changes ++ change ∷ []) (end.files 3) next.contents.kept (holding_of (end.files 3) next)
+    made_then =
+        subst (λ (h : Holding). Makes next.limits (holds.changes ++ change ∷ []) (end.files 3) next.contents.kept h) (sym holding_then)
+        (subst (λ (l : Limits). Makes l (holds.changes ++ change ∷ []) (end.files 3) next.contents.kept after) (sym limits)
+        (subst (λ (l : List FileRef). Makes v.limits (holds.changes ++ change ∷ []) (end.files 3) l after) (sym kept_is)
+        (subst (λ (b : List ℕ). Makes v.limits (holds.changes ++ change ∷ []) b all after) (sym third) made)))
+
+    pub holds_then : HoldsJournal end 1 longer (holds.bodies ++ body ∷ []) → IsDurable end → HoldsOpen end next
+    holds_then journal durable = record {
+      bodies = holds.bodies ++ body ∷ [];
+      changes = holds.changes ++ change ∷ [];
+      journal = subst (λ (n : ℕ). HoldsJournal end 1 n (holds.bodies ++ body ∷ [])) (sym used) journal;
+      each = zip_push holds.bodies holds.changes body change holds.each one;
+      reads = made_then;
+      images = λ c left. subst (λ (b : Bytes). Makes next.limits (holds.changes ++ change ∷ []) (b 3) next.contents.kept (holding_of (end.files 3) next)) (sym (durable c left)) made_then;
+      contents = omega (arith, ap staged_length staging, ap end_of kept_is, more.within, ap length third);
+    }

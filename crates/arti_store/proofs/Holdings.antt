@@ -1,0 +1,329 @@
+-- What changes make, over the bytes of the contents file.
+use Rattle.std.proofs.Common.{◌≡◌, inl, inr, ⊎_elim, ℕ, ◌+◌, ◌^◌, ◌<◌, ◌≤◌, zero, suc, Bool, true, false, cond, List, [], ◌∷◌, ◌++◌, length, get_or, take, drop, length-take, Option, Some, None, refl, sym, ◌∙◌, ap, subst, arith}
+use Rattle.std.specs.Prelude.{ℤ, All, Contains, map, filter, nat_eq, ◌&&◌, ◌≢◌, IfSome, option_map}
+use Rattle.std.specs.List.{list_any}
+use Rattle.std.specs.Ordering.{is_lt}
+use Rattle.std.specs.Cmp.Lexicographic.{pointwise, nat_list_eq_equiv}
+use Rattle.std.proofs.lemmas.Bool.{eqb-true}
+use Rattle.std.proofs.lemmas.List.{map-append, append-nil, get_or-map, length-map, drop-take, take-take, get_or_default}
+use Rattle.std.proofs.lemmas.List.Elements.{All-nil, All-cons, All-head, All-tail, All-append, All-weaker, All-map, All-filter, All-contains, All-contains_itself}
+use Rattle.std.proofs.lemmas.List.Folds.{list_any_none, list_any_at}
+use Rattle.arti_rows.specs.Key.{Key, key_cmp}
+use Rattle.arti_rows.specs.declared.limits.Limits.{Limits}
+use Rattle.arti_rows.specs.declared.rows.Digests.{Digests}
+use Rattle.arti_rows.specs.declared.rows.FileRef.{FileRef}
+use Rattle.arti_rows.specs.declared.rows.ItemRow.{ItemRow}
+use Rattle.arti_rows.specs.declared.edits.Edit.{Edit}
+use Rattle.arti_rows.specs.declared.edits.Edit.TheVariants as edits
+use Rattle.arti_rows.specs.declared.edits.Change.{Change}
+use Rattle.arti_blobs.specs.Contents.{content, end_of, Keeps}
+use Rattle.arti_model.specs.Store.{File, Repository, same_key}
+use Rattle.arti_model.specs.Apply.{Holding, nothing_kept, same_digests, same_file, keep, keep_edited, keep_edited_by, apply, apply_all}
+use Rattle.arti_store.specs.Items.{file_in, item_in, items_in, HasFileIn, find_row, put_row, put_rows}
+use Rattle.arti_store.specs.Changes.{edit_references, references_of, references}
+use Rattle.arti_store.specs.Edited.{has_row, missing_above, folder_row, folders_for, file_row, counted_row, rows_with_folder, rows_edited, rows_edited_by, rows_after, accepts_changes}
+use Rattle.arti_store.specs.Store.{View, holding_of, AreDistinct, Makes}
+use Rattle.arti_store.proofs.References.{keeps_front, keeps_each, keeps_within}
+use Rattle.arti_store.proofs.Verdicts.{accepted_seen, accepts_seen, items_applied}
+
+-- ---- the kept pairs
+
+both_true : (a b : Bool) → (a && b) ≡ true → (a ≡ true) × (b ≡ true)
+both_true true b e = (refl, e)
+both_true false b e = cc
+
+same_text : (xs ys : List ℕ) → pointwise nat_eq xs ys ≡ true → xs ≡ ys
+same_text [] [] e = refl
+same_text [] (y ∷ ys) e = cc
+same_text (x ∷ xs) [] e = cc
+same_text (x ∷ xs) (y ∷ ys) e =
+    let both = both_true (nat_eq x y) (pointwise nat_eq xs ys) e in
+    ap (λ z. z ∷ xs) (eqb-true x y both.0) ∙ ap (λ zs. y ∷ zs) (same_text xs ys both.1)
+
+same_pair : (a b : File) → same_file a b ≡ true → a ≡ b
+same_pair a b e =
+    let parts = both_true (pointwise nat_eq a.content b.content) (same_digests a.digests b.digests) e in
+    let digests = three (pointwise nat_eq a.digests.md5 b.digests.md5) (pointwise nat_eq a.digests.sha1 b.digests.sha1) (pointwise nat_eq a.digests.sha256 b.digests.sha256) parts.1 in
+    let c = same_text a.content b.content parts.0 in
+    let m = same_text a.digests.md5 b.digests.md5 digests.0 in
+    let s = same_text a.digests.sha1 b.digests.sha1 digests.1 in
+    let h = same_text a.digests.sha256 b.digests.sha256 digests.2 in
+    (λ i. record { content = c i; digests = record { md5 = m i; sha1 = s i; sha256 = h i } })
+  where
+    three : (x y z : Bool) → (x && y && z) ≡ true → (x ≡ true) × (y ≡ true) × (z ≡ true)
+    three true true true e = (refl, refl, refl)
+    three true true false e = cc
+    three true false z e = cc
+    three false y z e = cc
+
+all_true : (x y z w : Bool) → x ≡ true → y ≡ true → z ≡ true → w ≡ true → (x && (y && z && w)) ≡ true
+all_true x y z w ex ey ez ew =
+    ap (λ b. b && (y && z && w)) ex ∙ ap (λ b. b && z && w) ey ∙ ap (λ b. b && w) ez ∙ ew
+
+same_itself : (a : File) → same_file a a ≡ true
+same_itself a = all_true _ _ _ _ (nat_list_eq_equiv.refl a.content) (nat_list_eq_equiv.refl a.digests.md5) (nat_list_eq_equiv.refl a.digests.sha1) (nat_list_eq_equiv.refl a.digests.sha256)
+
+not_same : (b : Bool) → (b ≡ true → ⊥) → b ≡ false
+not_same true f = absurd (f refl)
+not_same false f = refl
+
+-- several are kept, one after the other
+abbrev pub keep_all : List File → List File → List File
+keep_all [] kept = kept
+keep_all (file ∷ files) kept = keep_all files (keep file kept)
+
+module _ (g : FileRef → File) where
+  keep_old : (kept : List FileRef) (file : FileRef) → Contains kept file → keep (g file) (map g kept) ≡ map g kept
+  keep_old kept file is =
+      let at : get_or (map g kept) is.0 (g file) ≡ g file = get_or-map g kept is.0 file (g file) is.1 ∙ ap g is.2 in
+      let yes : list_any (same_file (g file)) (map g kept) ≡ true =
+      list_any_at (same_file (g file)) (map g kept) is.0 (g file) (omega (arith, length-map kept g, is.1)) (ap (same_file (g file)) at ∙ same_itself (g file)) in
+      ap (λ b. cond b (map g kept) (map g kept ++ g file ∷ [])) yes
+
+  keep_new : (kept : List FileRef) (file : FileRef) → All (λ old. g old ≢ g file) kept → keep (g file) (map g kept) ≡ map g (kept ++ file ∷ [])
+  keep_new kept file others =
+      let no : list_any (same_file (g file)) (map g kept) ≡ false =
+      list_any_none (same_file (g file)) (map g kept)
+      (All-map (λ f. same_file (g file) f ≡ false) g kept
+      (All-weaker (λ old. g old ≢ g file) (λ old. same_file (g file) (g old) ≡ false) (λ old ne. not_same (same_file (g file) (g old)) (λ e. ne (sym (same_pair (g file) (g old) e)))) kept others)) in
+      ap (λ b. cond b (map g kept) (map g kept ++ g file ∷ [])) no ∙ sym (map-append g kept (file ∷ []))
+
+  keep_all-append : (files others kept : List File) → keep_all (files ++ others) kept ≡ keep_all others (keep_all files kept)
+  keep_all-append [] others kept = refl
+  keep_all-append (file ∷ files) others kept = keep_all-append files others (keep file kept)
+
+  one_kept : (edit : Edit) (kept : List File) → keep_edited g edit kept ≡ keep_all (map g (edit_references edit)) kept
+  one_kept (edits.File key given file props) kept = refl
+  one_kept (edits.Folder key) kept = refl
+  one_kept (edits.Downloaded key) kept = refl
+  one_kept (edits.Define def) kept = refl
+  one_kept (edits.Remove key) kept = refl
+  one_kept (edits.Move from to) kept = refl
+  one_kept (edits.Copy from to) kept = refl
+  one_kept (edits.SetProps key deep props) kept = refl
+  one_kept (edits.DropProps key deep keys) kept = refl
+  one_kept (edits.Build info) kept = refl
+  one_kept (edits.Unbuild name number) kept = refl
+  one_kept (edits.Promote name number row) kept = refl
+  one_kept (edits.Kept file) kept = refl
+  one_kept (edits.Item row) kept = refl
+  one_kept (edits.Held row) kept = refl
+
+  pub all_kept : (es : List Edit) (kept : List File) → keep_edited_by g es kept ≡ keep_all (map g (references_of es)) kept
+  all_kept [] kept = refl
+  all_kept (edit ∷ es) kept =
+      all_kept es (keep_edited g edit kept) ∙ ap (keep_all (map g (references_of es))) (one_kept edit kept)
+      ∙ sym (keep_all-append (map g (edit_references edit)) (map g (references_of es)) kept)
+      ∙ ap (λ l. keep_all l kept) (sym (map-append g (edit_references edit) (references_of es)))
+
+  pub change_kept : (change : Change) (h : Holding) → (apply g change h).kept ≡ keep_all (map g (references_of change.edits)) h.kept
+  unfolding apply
+  change_kept change h = all_kept change.edits h.kept
+
+  changes_kept : (changes : List Change) (h : Holding) → (apply_all g changes h).kept ≡ keep_all (map g (references changes)) h.kept
+  changes_kept [] h = refl
+  changes_kept (change ∷ changes) h =
+      changes_kept changes (apply g change h) ∙ ap (keep_all (map g (references changes))) (change_kept change h)
+      ∙ sym (keep_all-append (map g (references_of change.edits)) (map g (references changes)) h.kept)
+      ∙ ap (λ l. keep_all l h.kept) (sym (map-append g (references_of change.edits) (references changes)))
+
+module _ (bytes : List ℕ) where
+  -- the pairs that are kept are those of the kept references
+  pub kept_seen : (files kept all : List FileRef) → Keeps kept files all → AreDistinct bytes all → keep_all (map (file_in bytes) files) (map (file_in bytes) kept) ≡ map (file_in bytes) all
+  kept_seen [] kept all keeps distinct = ap (map (file_in bytes)) (sym keeps)
+  kept_seen (file ∷ files) kept all (inl old) distinct =
+      ap (keep_all (map (file_in bytes) files)) (keep_old (file_in bytes) kept file old.0) ∙ kept_seen files kept all old.1 distinct
+  kept_seen (file ∷ files) kept all (inr new) distinct =
+      let front = keeps_front files (kept ++ file ∷ []) all new.2 in
+      ap (keep_all (map (file_in bytes) files)) (keep_new (file_in bytes) kept file (others kept front.0 (subst (AreDistinct bytes) front.1 distinct)))
+      ∙ kept_seen files (kept ++ file ∷ []) all new.2 distinct
+    where
+      others : (xs more : List FileRef) → AreDistinct bytes ((xs ++ file ∷ []) ++ more) → All (λ old. file_in bytes old ≢ file_in bytes file) xs
+      others [] more pairs = All-nil (λ old. file_in bytes old ≢ file_in bytes file)
+      others (x ∷ xs) more pairs =
+          All-cons (λ old. file_in bytes old ≢ file_in bytes file) x xs
+          (last xs more (λ k d lt. pairs zero (suc k) d (omega arith) (omega arith)))
+          (others xs more (λ i j d lt within. pairs (suc i) (suc j) d (omega arith) (omega arith)))
+        where
+          last : (ys rest : List FileRef) → All (λ b. file_in bytes x ≢ file_in bytes b) ((ys ++ file ∷ []) ++ rest) → file_in bytes x ≢ file_in bytes file
+          last [] rest all = All-head (λ b. file_in bytes x ≢ file_in bytes b) file rest all
+          last (y ∷ ys) rest all = last ys rest (All-tail (λ b. file_in bytes x ≢ file_in bytes b) y ((ys ++ file ∷ []) ++ rest) all)
+
+  items_made : (changes : List Change) (h : Holding) (rows : List ItemRow) → h.repository.items ≡ items_in bytes rows → (apply_all (file_in bytes) changes h).repository.items ≡ items_in bytes (rows_after changes rows)
+  items_made [] h rows is = is
+  items_made (change ∷ changes) h rows is =
+      items_made changes (apply (file_in bytes) change h) (rows_edited_by change.moment change.user change.edits rows) (items_applied bytes change h rows is)
+
+  -- a holding of these rows and these kept contents
+  abbrev pub seen : List ItemRow → List FileRef → Holding
+  seen rows kept = record { repository = record { items = items_in bytes rows }; kept = map (file_in bytes) kept }
+
+  pub made_seen : (changes : List Change) (kept : List FileRef) → Keeps [] (references changes) kept → AreDistinct bytes kept → apply_all (file_in bytes) changes nothing_kept ≡ seen (rows_after changes []) kept
+  made_seen changes kept keeps distinct =
+      let items = items_made changes nothing_kept [] refl in
+      let pairs = changes_kept (file_in bytes) changes nothing_kept ∙ kept_seen (references changes) [] kept keeps distinct in
+      (λ i. record { repository = record { items = items i }; kept = pairs i })
+
+  -- one change more, of rows and kept contents
+  pub change_seen : (change : Change) (rows : List ItemRow) (kept all : List FileRef) → Keeps kept (references_of change.edits) all → AreDistinct bytes all
+      → apply (file_in bytes) change (seen rows kept) ≡ seen (rows_edited_by change.moment change.user change.edits rows) all
+  change_seen change rows kept all keeps distinct =
+      let items = items_applied bytes change (seen rows kept) rows refl in
+      let pairs = change_kept (file_in bytes) change (seen rows kept) ∙ kept_seen (references_of change.edits) kept all keeps distinct in
+      (λ i. record { repository = record { items = items i }; kept = pairs i })
+
+-- changes that are accepted make what their rows and contents are
+pub makes_seen : (limits : Limits) (changes : List Change) (bytes : List ℕ) (kept : List FileRef) → accepts_changes limits changes [] ≡ true → Keeps [] (references changes) kept
+    → AreDistinct bytes kept → end_of kept ≤ length bytes → end_of kept ≤ 2 ^ 62 → Makes limits changes bytes kept (seen bytes (rows_after changes []) kept)
+makes_seen limits changes bytes kept yes keeps distinct within short = record {
+  accepted = accepted_seen limits bytes changes nothing_kept [] refl yes;
+  made = sym (made_seen bytes changes kept keeps distinct);
+  refer = keeps;
+  distinct = distinct;
+  within = within;
+  short = short;
+}
+
+pub makes_accepts : (limits : Limits) (changes : List Change) (bytes : List ℕ) (kept : List FileRef) (h : Holding) → Makes limits changes bytes kept h → accepts_changes limits changes [] ≡ true
+makes_accepts limits changes bytes kept h makes = accepts_seen limits bytes changes nothing_kept [] refl makes.accepted
+
+-- ---- the contents of rows are kept
+
+split : {X : Type 0} (P : X → Type 0) (xs ys : List X) → All P (xs ++ ys) → All P xs × All P ys
+split P [] ys all = (All-nil P, all)
+split P (x ∷ xs) ys all =
+    let rest = split P xs ys (All-tail P x (xs ++ ys) all) in
+    (All-cons P x xs (All-head P x (xs ++ ys) all) rest.0, rest.1)
+
+module _ (kept : List FileRef) where
+  abbrev Has : ItemRow → Type 0
+  Has row = HasFileIn kept row
+
+  has_put : (new : ItemRow) (rows : List ItemRow) → Has new → All Has rows → All Has (put_row new rows)
+  has_put new rows has all =
+      All-append Has (filter (λ (row : ItemRow). is_lt (key_cmp row.key new.key)) rows) (new ∷ filter (λ (row : ItemRow). is_lt (key_cmp new.key row.key)) rows)
+      (All-filter (λ (row : ItemRow). is_lt (key_cmp row.key new.key)) Has rows all)
+      (All-cons Has new (filter (λ (row : ItemRow). is_lt (key_cmp new.key row.key)) rows) has (All-filter (λ (row : ItemRow). is_lt (key_cmp new.key row.key)) Has rows all))
+
+  has_puts : (news rows : List ItemRow) → All Has news → All Has rows → All Has (put_rows news rows)
+  has_puts [] rows new all = all
+  has_puts (x ∷ news) rows new all = has_puts news (put_row x rows) (All-tail Has x news new) (has_put x rows (All-head Has x news new) all)
+
+  module _ (moment : ℤ) (user : List ℕ) where
+    has_folders : (keys : List Key) → All Has (map (folder_row moment user) keys)
+    has_folders keys = All-map Has (folder_row moment user) keys (λ k d lt. tt)
+
+    has_counts : (key : Key) (rows : List ItemRow) → All Has rows → All Has (map (λ (row : ItemRow). cond (same_key row.key key) (counted_row moment user row) row) rows)
+    has_counts key rows all = All-map Has (λ (row : ItemRow). cond (same_key row.key key) (counted_row moment user row) row) rows
+        (All-weaker Has (λ row. Has (cond (same_key row.key key) (counted_row moment user row) row)) (λ row has. by (same_key row.key key) row has) rows all)
+      where
+        by : (b : Bool) (row : ItemRow) → Has row → Has (cond b (counted_row moment user row) row)
+        by true row has = has
+        by false row has = has
+
+    has_folder : (b : Bool) (rows news : List ItemRow) → All Has rows → All Has (put_rows news rows) → All Has (cond b rows (put_rows news rows))
+    has_folder true rows news all new = all
+    has_folder false rows news all new = new
+
+    pub has_edit : (edit : Edit) (rows : List ItemRow) → All Has rows → All (Contains kept) (edit_references edit) → All Has (rows_edited moment user edit rows)
+    has_edit (edits.Folder key) rows all named =
+        let news = folders_for rows moment user key ++ folder_row moment user key ∷ [] in
+        has_folder (has_row rows key) rows news all
+        (has_puts news rows (All-append Has (folders_for rows moment user key) (folder_row moment user key ∷ []) (has_folders (missing_above rows key)) (All-cons Has (folder_row moment user key) [] tt (All-nil Has))) all)
+    has_edit (edits.File key given file props) rows all named =
+        let new = file_row moment user key given file props (find_row rows key) in
+        has_puts (folders_for rows moment user key ++ new ∷ []) rows
+        (All-append Has (folders_for rows moment user key) (new ∷ []) (has_folders (missing_above rows key)) (All-cons Has new [] (All-head (Contains kept) file [] named) (All-nil Has))) all
+    has_edit (edits.Downloaded key) rows all named = has_counts key rows all
+    has_edit (edits.Define def) rows all named = all
+    has_edit (edits.Remove key) rows all named = all
+    has_edit (edits.Move from to) rows all named = all
+    has_edit (edits.Copy from to) rows all named = all
+    has_edit (edits.SetProps key deep props) rows all named = all
+    has_edit (edits.DropProps key deep keys) rows all named = all
+    has_edit (edits.Build info) rows all named = all
+    has_edit (edits.Unbuild name number) rows all named = all
+    has_edit (edits.Promote name number row) rows all named = all
+    has_edit (edits.Kept file) rows all named = all
+    has_edit (edits.Item row) rows all named = all
+    has_edit (edits.Held row) rows all named = all
+
+    pub has_edits : (es : List Edit) (rows : List ItemRow) → All Has rows → All (Contains kept) (references_of es) → All Has (rows_edited_by moment user es rows)
+    has_edits [] rows all named = all
+    has_edits (edit ∷ es) rows all named =
+        let both = split (Contains kept) (edit_references edit) (references_of es) named in
+        has_edits es (rows_edited moment user edit rows) (has_edit edit rows all both.0) both.1
+
+  pub has_after : (changes : List Change) (rows : List ItemRow) → All Has rows → All (Contains kept) (references changes) → All Has (rows_after changes rows)
+  has_after [] rows all named = all
+  has_after (change ∷ changes) rows all named =
+      let both = split (Contains kept) (references_of change.edits) (references changes) named in
+      has_after changes (rows_edited_by change.moment change.user change.edits rows) (has_edits change.moment change.user change.edits rows all both.0) both.1
+
+-- rows keep their contents where more are kept
+pub has_more : (kept all : List FileRef) → ((file : FileRef) → Contains kept file → Contains all file) → (rows : List ItemRow) → All (HasFileIn kept) rows → All (HasFileIn all) rows
+has_more kept all more rows has = All-weaker (HasFileIn kept) (HasFileIn all) (λ row h. by row.file h) rows has
+  where
+    by : (file : Option FileRef) → IfSome file (Contains kept) → IfSome file (Contains all)
+    by None h = tt
+    by (Some file) h = more file h
+
+-- ---- other bytes behind the kept contents
+
+same_content : (end : ℕ) (bytes others : List ℕ) (file : FileRef) → file.place + file.len ≤ end → take end others ≡ take end bytes → content others file ≡ content bytes file
+same_content end bytes others file le same =
+    sym (drop-take file.place file.len others)
+    ∙ ap (drop file.place) (sym (take-take (file.place + file.len) end others le) ∙ ap (take (file.place + file.len)) same ∙ take-take (file.place + file.len) end bytes le)
+    ∙ drop-take file.place file.len bytes
+
+module _ (bytes others : List ℕ) (kept : List FileRef) (same : (file : FileRef) → Contains kept file → file_in others file ≡ file_in bytes file) where
+  same_item : (row : ItemRow) → HasFileIn kept row → item_in others row ≡ item_in bytes row
+  same_item row has = ap (λ (f : Option File). record (item_in bytes row) { file = f }) (by row.file has)
+    where
+      by : (file : Option FileRef) → IfSome file (Contains kept) → option_map (file_in others) file ≡ option_map (file_in bytes) file
+      by None h = refl
+      by (Some file) h = ap Some (same file h)
+
+  same_items : (rows : List ItemRow) → All (HasFileIn kept) rows → items_in others rows ≡ items_in bytes rows
+  same_items [] all = refl
+  same_items (row ∷ rows) all =
+      ap (λ i. i ∷ items_in others rows) (same_item row (All-head (HasFileIn kept) row rows all)) ∙ ap (λ l. item_in bytes row ∷ l) (same_items rows (All-tail (HasFileIn kept) row rows all))
+
+  same_pairs : (files : List FileRef) → All (Contains kept) files → map (file_in others) files ≡ map (file_in bytes) files
+  same_pairs [] all = refl
+  same_pairs (file ∷ files) all =
+      ap (λ f. f ∷ map (file_in others) files) (same file (All-head (Contains kept) file files all)) ∙ ap (λ l. file_in bytes file ∷ l) (same_pairs files (All-tail (Contains kept) file files all))
+
+  pub same_seen : (rows : List ItemRow) → All (HasFileIn kept) rows → All (Contains kept) kept → seen others rows kept ≡ seen bytes rows kept
+  same_seen rows all itself =
+      let items = same_items rows all in
+      let pairs = same_pairs kept itself in
+      (λ i. record { repository = record { items = items i }; kept = pairs i })
+
+  pub same_distinct : AreDistinct bytes kept → AreDistinct others kept
+  same_distinct distinct = λ i j d lt within e.
+      distinct i j d lt within (sym (same (get_or kept i d) (i, omega arith, get_or_default kept i (get_or kept i d) d (omega arith))) ∙ e ∙ same (get_or kept j d) (j, within, get_or_default kept j (get_or kept j d) d within))
+
+-- the same bytes up to the end of the kept contents
+module _ (bytes others : List ℕ) (files kept : List FileRef) (refer : Keeps [] files kept) (front : take (end_of kept) others ≡ take (end_of kept) bytes) where
+  same_files : (file : FileRef) → Contains kept file → file_in others file ≡ file_in bytes file
+  same_files file is =
+      let le = All-contains (λ (f : FileRef). f.place + f.len ≤ end_of kept) kept file (keeps_within files [] kept (All-nil (λ (f : FileRef). f.place + f.len ≤ 0)) refer) is in
+      ap (λ c. record { content = c; digests = file.digests }) (same_content (end_of kept) bytes others file le front)
+
+  pub seen_stays : (rows : List ItemRow) → All (HasFileIn kept) rows → seen others rows kept ≡ seen bytes rows kept
+  seen_stays rows all = same_seen bytes others kept same_files rows all (All-contains_itself kept)
+
+  pub distinct_stays : AreDistinct bytes kept → AreDistinct others kept
+  distinct_stays distinct = same_distinct bytes others kept same_files distinct
+
+-- what changes make stays
+pub makes_stays : (limits : Limits) (changes : List Change) (bytes others : List ℕ) (kept : List FileRef) (h : Holding) → take (end_of kept) others ≡ take (end_of kept) bytes → Makes limits changes bytes kept h → Makes limits changes others kept h
+makes_stays limits changes bytes others kept h front makes =
+    let yes = makes_accepts limits changes bytes kept h makes in
+    let rows = rows_after changes [] in
+    let has : All (HasFileIn kept) rows = has_after kept changes [] (All-nil (HasFileIn kept)) (keeps_each (references changes) [] kept makes.refer) in
+    let made : h ≡ seen bytes rows kept = makes.made ∙ made_seen bytes changes kept makes.refer makes.distinct in
+    let within : end_of kept ≤ length others = omega (arith, ap length front, length-take (end_of kept) others, length-take (end_of kept) bytes, makes.within) in
+    subst (λ (x : Holding). Makes limits changes others kept x) (seen_stays bytes others (references changes) kept makes.refer front rows has ∙ sym made)
+    (makes_seen limits changes others kept yes makes.refer (distinct_stays bytes others (references changes) kept makes.refer front makes.distinct) within makes.short)

@@ -1,0 +1,104 @@
+-- References of kept contents.
+use Rattle.std.proofs.Common.{◌≡◌, inl, inr, ⊎_elim, ℕ, ◌+◌, ◌<◌, ◌≤◌, zero, suc, Bool, true, false, cond, List, [], ◌∷◌, ◌++◌, length, get_or, take, drop, refl, sym, ◌∙◌, ap, subst, arith, append_assoc}
+use Rattle.std.specs.Prelude.{All, AllPairs, Contains, ◌≢◌, IsTrue}
+use Rattle.std.proofs.lemmas.List.{append-nil}
+use Rattle.std.proofs.lemmas.List.Elements.{All-nil, All-cons, All-head, All-tail, All-push, All-weaker, All-append, All-contains, Contains-append_left, Contains-push, Contains-push_cases, Contains-get_or}
+use Rattle.std.proofs.lemmas.List.Kept.{AllPairs-cons}
+use Rattle.std.proofs.lemmas.List.Sums.{sum_by_push}
+use Rattle.arti_rows.specs.declared.rows.FileRef.{FileRef}
+use Rattle.arti_rows.specs.declared.edits.Edit.{Edit}
+use Rattle.arti_rows.specs.declared.edits.Change.{Change}
+use Rattle.arti_blobs.specs.Contents.{content, end_of, Keeps, HasPair}
+use Rattle.arti_store.specs.Items.{file_in}
+use Rattle.arti_store.specs.Changes.{edit_references, references_of, references}
+use Rattle.arti_store.specs.Store.{AreDistinct, IsFresh}
+
+pub end_push : (kept : List FileRef) (file : FileRef) → end_of (kept ++ file ∷ []) ≡ end_of kept + file.len
+end_push kept file = sum_by_push (λ (f : FileRef). f.len) kept file
+
+-- the kept ones from before stand at the front
+pub keeps_front : (files kept all : List FileRef) → Keeps kept files all → (more : List FileRef) × (all ≡ kept ++ more)
+keeps_front [] kept all keeps = ([], keeps ∙ sym (append-nil kept))
+keeps_front (file ∷ files) kept all (inl old) = keeps_front files kept all old.1
+keeps_front (file ∷ files) kept all (inr new) =
+    let rest = keeps_front files (kept ++ file ∷ []) all new.2 in
+    (file ∷ rest.0, rest.1 ∙ append_assoc kept (file ∷ []) rest.0)
+
+pub keeps_old : (files kept all : List FileRef) (file : FileRef) → Keeps kept files all → Contains kept file → Contains all file
+keeps_old files kept all file keeps is =
+    let front = keeps_front files kept all keeps in
+    subst (λ (l : List FileRef). Contains l file) (sym front.1) (Contains-append_left kept front.0 file is)
+
+-- each of the references is kept
+pub keeps_each : (files kept all : List FileRef) → Keeps kept files all → All (Contains all) files
+keeps_each [] kept all keeps = All-nil (Contains all)
+keeps_each (file ∷ files) kept all (inl old) =
+    All-cons (Contains all) file files (keeps_old files kept all file old.1 old.0) (keeps_each files kept all old.1)
+keeps_each (file ∷ files) kept all (inr new) =
+    All-cons (Contains all) file files (keeps_old files (kept ++ file ∷ []) all file new.2 (Contains-push kept file)) (keeps_each files (kept ++ file ∷ []) all new.2)
+
+-- each ends where all of them end or before
+pub keeps_within : (files kept all : List FileRef) → All (λ file. file.place + file.len ≤ end_of kept) kept → Keeps kept files all → All (λ file. file.place + file.len ≤ end_of all) all
+keeps_within [] kept all within keeps = subst (λ (l : List FileRef). All (λ file. file.place + file.len ≤ end_of l) l) (sym keeps) within
+keeps_within (file ∷ files) kept all within (inl old) = keeps_within files kept all within old.1
+keeps_within (file ∷ files) kept all within (inr new) =
+    let more : end_of (kept ++ file ∷ []) ≡ end_of kept + file.len = end_push kept file in
+    keeps_within files (kept ++ file ∷ []) all
+    (All-push (λ (f : FileRef). f.place + f.len ≤ end_of (kept ++ file ∷ [])) kept file
+    (All-weaker (λ (f : FileRef). f.place + f.len ≤ end_of kept) (λ (f : FileRef). f.place + f.len ≤ end_of (kept ++ file ∷ [])) (λ f le. omega arith) kept within)
+    (omega (arith, more, new.1)))
+    new.2
+
+-- one after the other
+pub keeps_then : (files more kept mid all : List FileRef) → Keeps kept files mid → Keeps mid more all → Keeps kept (files ++ more) all
+keeps_then [] more kept mid all keeps then = subst (λ (l : List FileRef). Keeps l more all) keeps then
+keeps_then (file ∷ files) more kept mid all (inl old) then = inl (old.0, keeps_then files more kept mid all old.1 then)
+keeps_then (file ∷ files) more kept mid all (inr new) then = inr (new.0, new.1, keeps_then files more (kept ++ file ∷ []) mid all new.2 then)
+
+-- all of them are kept already
+pub keeps_none : (files kept : List FileRef) → All (Contains kept) files → Keeps kept files kept
+keeps_none [] kept all = refl
+keeps_none (file ∷ files) kept all = inl (All-head (Contains kept) file files all, keeps_none files kept (All-tail (Contains kept) file files all))
+
+-- one of them is new
+pub keeps_one : (files kept : List FileRef) (new : FileRef) → All (Contains (kept ++ new ∷ [])) files → Contains files new → (Contains kept new → ⊥) → new.place ≡ end_of kept → Keeps kept files (kept ++ new ∷ [])
+keeps_one [] kept new all named is_not at = absurd (omega (arith, named.1))
+keeps_one (file ∷ files) kept new all named is_not at =
+    ⊎_elim
+    (λ old. inl (old, keeps_one files kept new (All-tail (Contains (kept ++ new ∷ [])) file files all) (later old named) is_not at))
+    (λ same.
+    let here : Keeps kept (new ∷ files) (kept ++ new ∷ []) = inr (is_not, at, keeps_none files (kept ++ new ∷ []) (All-tail (Contains (kept ++ new ∷ [])) file files all)) in
+    subst (λ (f : FileRef). Keeps kept (f ∷ files) (kept ++ new ∷ [])) same here)
+    (Contains-push_cases kept new file (All-head (Contains (kept ++ new ∷ [])) file files all))
+  where
+    later : Contains kept file → Contains (file ∷ files) new → Contains files new
+    later old (zero, lt, is) = absurd (is_not (subst (λ (f : FileRef). Contains kept f) is old))
+    later old (suc k, lt, is) = (k, omega arith, is)
+
+-- what one edit and one change more name
+pub references-append : (changes others : List Change) → references (changes ++ others) ≡ references changes ++ references others
+references-append [] others = refl
+references-append (change ∷ changes) others =
+    ap (λ l. references_of change.edits ++ l) (references-append changes others) ∙ sym (append_assoc (references_of change.edits) (references changes) (references others))
+
+pub references-push : (changes : List Change) (change : Change) → references (changes ++ change ∷ []) ≡ references changes ++ references_of change.edits
+references-push changes change = references-append changes (change ∷ []) ∙ ap (λ l. references changes ++ l) (append-nil (references_of change.edits))
+
+-- ---- fresh ones
+
+module _ (bytes : List ℕ) (kept : List FileRef) (file : FileRef) (fresh : IsFresh bytes kept file) where
+  same_pair : (old : FileRef) → Contains kept old → file_in bytes old ≡ file_in bytes file → ⊥
+  same_pair old is same = fresh.new (record { file = old; is_kept = is; same_bytes = ap (λ f. f.content) same; same_digests = ap (λ f. f.digests) same })
+
+  pub fresh_not_kept : Contains kept file → ⊥
+  fresh_not_kept is = same_pair file is refl
+
+  pub distinct_push : AreDistinct bytes kept → AreDistinct bytes (kept ++ file ∷ [])
+  distinct_push distinct = pairs_push kept distinct (λ k d lt same. same_pair (get_or kept k d) (Contains-get_or kept k d lt) same)
+    where
+      pairs_push : (xs : List FileRef) → AreDistinct bytes xs → All (λ old. file_in bytes old ≢ file_in bytes file) xs → AreDistinct bytes (xs ++ file ∷ [])
+      pairs_push [] distinct all = λ i j d lt within. absurd (omega arith)
+      pairs_push (x ∷ xs) distinct all =
+          AllPairs-cons (λ a b. file_in bytes a ≢ file_in bytes b) x (xs ++ file ∷ [])
+          (All-push (λ b. file_in bytes x ≢ file_in bytes b) xs file (λ k d lt. distinct zero (suc k) d (omega arith) (omega arith)) (All-head (λ old. file_in bytes old ≢ file_in bytes file) x xs all))
+          (pairs_push xs (λ i j d lt within. distinct (suc i) (suc j) d (omega arith) (omega arith)) (All-tail (λ old. file_in bytes old ≢ file_in bytes file) x xs all))

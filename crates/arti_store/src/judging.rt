@@ -1,0 +1,104 @@
+// Which edits are accepted.
+ghost use Rattle.std.specs.Prelude.{◌≡◌, ◌+◌, ℕ, List, not, filter, length, IfOk, IsTrue};
+ghost use Rattle.std.specs.List.{list_any};
+ghost use Rattle.arti_rows.specs.Key.{folders_above};
+ghost use Rattle.arti_model.specs.Apply.{is_local};
+ghost use Rattle.arti_store.specs.Edited.{has_row, has_file_row, has_folder_row, has_room, count_with, may_put, accepts_edit};
+
+use crate::rows::Rows;
+use arti_rows::{Edit, ItemKey, Limits};
+use std::alloc::{AllocError, Global};
+
+/// Whether an edit is accepted.
+pub(crate) fn accepts(
+    alloc: Global,
+    limits: &Limits,
+    edit: &Edit,
+    rows: &Rows,
+) -> Result<bool, AllocError>
+    ensures { IfOk result (λ b. b ≡ accepts_edit limits.now edit.now rows.now) }
+{
+    match edit {
+        Edit::Folder { key } => may_put(alloc, limits, rows, key, rows.has_file(key)),
+        Edit::File { key, .. } => may_put(alloc, limits, rows, key, has_folder(rows, key)),
+        Edit::Downloaded { key } => Ok(is_local(key) && rows.has_file(key)),
+        _ => Ok(false),
+    }
+}
+
+// Whether an item may come to a key, where `taken` says whether one of the other kind stands there.
+fn may_put(
+    alloc: Global,
+    limits: &Limits,
+    rows: &Rows,
+    key: &ItemKey,
+    taken: bool,
+) -> Result<bool, AllocError>
+    ensures { IfOk result (λ b. b ≡ may_put limits.now rows.now key.now taken) }
+{
+    if !is_local(key) {
+        return Ok(false);
+    }
+    let folders = key.folders(alloc)?;
+    if has_file_among(rows, &folders) || taken {
+        return Ok(false);
+    }
+    Ok(has_room(limits, rows, count_with(rows, &folders, key)))
+}
+
+// Whether the key is one of the repository.
+fn is_local(key: &ItemKey) -> bool
+    ensures { result ≡ is_local key.now }
+{
+    key.repo.as_str() == "generic-local"
+}
+
+// Whether a folder stands at the key.
+fn has_folder(rows: &Rows, key: &ItemKey) -> bool
+    ensures { result ≡ has_folder_row rows.now key.now }
+{
+    rows.has(key) && !rows.has_file(key)
+}
+
+// Whether a file stands at one of the keys.
+fn has_file_among(rows: &Rows, keys: &[ItemKey]) -> bool
+    ensures { result ≡ list_any (has_file_row rows.now) keys.now }
+{
+    for key in keys {
+        if rows.has_file(key) {
+            return true;
+        }
+    }
+    false
+}
+
+// How many of the folders above a key and of the key itself are missing.
+fn count_with(rows: &Rows, folders: &[ItemKey], key: &ItemKey) -> usize
+    requires { folders.now ≡ folders_above key.now }
+    ensures { result ≡ count_with rows.now key.now }
+{
+    let missing = count_missing(rows, folders);
+    if rows.has(key) { missing } else { missing + 1 }
+}
+
+// How many of the keys are missing.
+fn count_missing(rows: &Rows, keys: &[ItemKey]) -> usize
+    ensures count { result ≡ length (filter (λ key. not (has_row rows.now key)) keys.now) }
+    ensures most { result ≤ length keys.now }
+{
+    let mut count = 0;
+    for key in keys {
+        if !rows.has(key) {
+            count += 1;
+        }
+    }
+    count
+}
+
+// Whether so many rows may come.
+fn has_room(limits: &Limits, rows: &Rows, added: usize) -> bool
+    ensures { result ≡ has_room limits.now rows.now added }
+{
+    let most = limits.items as usize;
+    added == 0 || (added <= most && rows.as_slice().len() <= most - added)
+}

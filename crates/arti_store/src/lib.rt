@@ -1,0 +1,17 @@
+//! The store: a journal of changes, the contents that they name, and the items that they leave, over files that a crash may
+//! tear.
+#![tactic(auto)]
+
+mod commit;
+mod edits;
+mod fault;
+mod judging;
+mod laws;
+mod opening;
+mod replaying;
+mod rows;
+mod store;
+
+pub use fault::{CommitFault, ContentFault, OpenFault};
+pub use laws::{images_stand, stores_stay};
+pub use store::Store;

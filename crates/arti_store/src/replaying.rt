@@ -1,0 +1,93 @@
+// Changes that are done again.
+ghost use Rattle.std.specs.Prelude.{◌≡◌, ◌++◌, ℕ, List, [], None, true, IfOk, IfSome, OnOk, IsTrue};
+ghost use Rattle.arti_journal.specs.Journal.{bodies_of};
+ghost use Rattle.arti_store.specs.Changes.{edit_references, references_of};
+ghost use Rattle.arti_store.specs.Edited.{rows_edited_by, accepts_change, accepts_edits, rows_edited, accepts_edit};
+ghost use Rattle.arti_store.specs.Replays.{Replays, ReplaysNot};
+
+use crate::edits::do_one;
+use crate::judging::accepts;
+use crate::rows::Rows;
+use arti_codec::{DecodeFault, decode};
+use arti_rows::{Change, Edit, FileRef, Limits, Moment, Text};
+use std::alloc::{AllocError, Global};
+
+/// The rows that the changes of a journal leave, and the contents that they name. None where a body is no change, or a change
+/// isn't accepted after those before it.
+pub(crate) fn replay(
+    alloc: Global,
+    limits: &Limits,
+    bodies: &[Vec<u8>],
+) -> Result<Option<(Rows, Vec<FileRef>)>, AllocError>
+    ensures done { IfOk result (λ r. IfSome r (λ x. Replays limits.now (bodies_of bodies.now) x.0 x.1.items)) }
+    ensures none { IfOk result (λ r. r ≡ None → ReplaysNot limits.now (bodies_of bodies.now)) }
+{
+    let mut rows = Rows::new(alloc);
+    let mut files = Vec::new(alloc);
+    'bodies: for body in bodies {
+        match decode(alloc, body) {
+            Err(DecodeFault::NotAChange) => return Ok(None),
+            Err(DecodeFault::Memory) => return Err(AllocError),
+            Ok(change) => {
+                if !redo(alloc, limits, &mut rows, &mut files, change)? {
+                    return Ok(None);
+                }
+            }
+        }
+    }
+    Ok(Some((rows, files)))
+}
+
+// Does a change again, or tells that it isn't accepted.
+fn redo(
+    alloc: Global,
+    limits: &Limits,
+    rows: &mut Rows,
+    files: &mut Vec<FileRef>,
+    change: Change,
+) -> Result<bool, AllocError>
+    ensures accepted { IfOk result (λ b. b ≡ accepts_change limits.now change rows.old) }
+    ensures rows { IfOk result (λ b. IsTrue b → rows.new ≡ rows_edited_by change.moment change.user change.edits rows.old) }
+    ensures files { IfOk result (λ b. IsTrue b → files.new.items ≡ files.old.items ++ references_of change.edits) }
+{
+    let moment = change.moment;
+    let user = change.user;
+    'edits: for edit in change.edits.into_vec() {
+        if !redo_one(alloc, limits, rows, files, moment, &user, edit)? {
+            return Ok(false);
+        }
+    }
+    Ok(true)
+}
+
+// Does an edit again, or tells that it isn't accepted.
+fn redo_one(
+    alloc: Global,
+    limits: &Limits,
+    rows: &mut Rows,
+    files: &mut Vec<FileRef>,
+    moment: Moment,
+    user: &Text,
+    edit: Edit,
+) -> Result<bool, AllocError>
+    ensures accepted { IfOk result (λ b. b ≡ accepts_edit limits.now edit rows.old) }
+    ensures rows { IfOk result (λ b. IsTrue b → rows.new ≡ rows_edited moment user.now edit rows.old) }
+    ensures files { IfOk result (λ b. IsTrue b → files.new.items ≡ files.old.items ++ edit_references edit) }
+{
+    if !accepts(alloc, limits, &edit, rows)? {
+        return Ok(false);
+    }
+    note(files, &edit)?;
+    do_one(alloc, rows, moment, user, edit)?;
+    Ok(true)
+}
+
+// Puts the contents that an edit names behind others.
+fn note(files: &mut Vec<FileRef>, edit: &Edit) -> Result<(), AllocError>
+    ensures { OnOk result (files.new.items ≡ files.old.items ++ edit_references edit.now) }
+{
+    if let Edit::File { file, .. } = edit {
+        files.push(*file)?;
+    }
+    Ok(())
+}
