@@ -1,11 +1,11 @@
 -- What a change more makes, and what a crash leaves while it is committed.
 use Rattle.std.proofs.Common.{◌≡◌, inl, inr, ⊎_elim, ℕ, ◌+◌, ◌^◌, ◌<◌, ◌≤◌, Bool, true, false, cond, List, [], ◌∷◌, ◌++◌, length, get_or, take, Option, Some, None, refl, sym, ◌∙◌, ap, subst, arith, length-append}
-use Rattle.std.specs.Prelude.{All, Contains, map, IfSome, IsTrue}
+use Rattle.std.specs.Prelude.{All, Contains, map, IfSome, IsSomeAnd, IsTrue, ◌↔◌}
 use Rattle.std.specs.List.{AllZip}
 use Rattle.std.specs.Int.{w32, to_be_bytes}
-use Rattle.std.proofs.lemmas.Bool.{cases_eq, false≢true}
+use Rattle.std.proofs.lemmas.Bool.{cases_lt}
 use Rattle.std.proofs.lemmas.List.{get_or_default}
-use Rattle.std.proofs.lemmas.List.Elements.{Contains-push_cases}
+use Rattle.std.proofs.lemmas.List.Elements.{Contains-push_cases, Contains-append_left}
 use Rattle.arti_rows.specs.declared.limits.Limits.{Limits}
 use Rattle.arti_rows.specs.declared.rows.FileRef.{FileRef}
 use Rattle.arti_rows.specs.declared.rows.ItemRow.{ItemRow}
@@ -23,7 +23,7 @@ use Rattle.arti_model.specs.Apply.{Holding, nothing_kept, apply, apply_all, refu
 use Rattle.arti_store.specs.Items.{file_in, items_in, HasFileIn}
 use Rattle.arti_store.specs.Changes.{references_of, references}
 use Rattle.arti_store.specs.Edited.{rows_edited_by}
-use Rattle.arti_store.specs.Store.{View, holding_of, Accepted, AreDistinct, Makes, Stands, HoldsOpen, HoldsStore, Standing, kept_and, MayKeep, IsFresh, IsStaged, IsAdded, AddsSome, Committing}
+use Rattle.arti_store.specs.Store.{View, holding_of, Accepted, AreDistinct, Makes, Stands, HoldsOpen, HoldsStore, Standing, kept_and, MayKeep, IsFresh, IsStaged, IsAdded, AddsSome, PassesBlobs, Committing}
 use Rattle.arti_store.proofs.References.{end_push, keeps_then, keeps_none, keeps_one, references-push, fresh_not_kept, distinct_push}
 use Rattle.arti_store.proofs.Holdings.{makes_stays, seen_stays, change_seen}
 
@@ -282,3 +282,57 @@ module _ (start end : State) (v : View) (change : Change) (body : List ℕ) (all
       images = λ c left. subst (λ (b : Bytes). Makes next.limits (holds.changes ++ change ∷ []) (b 3) next.contents.kept (holding_of (end.files 3) next)) (sym (durable c left)) made_then;
       contents = omega (arith, ap staged_length staging, ap end_of kept_is, more.within, ap length third);
     }
+
+-- ---- what is added of a staged content
+
+some_is : (a b : Staged) → Some a ≡ Some b → a ≡ b
+some_is a b e = cc
+
+pub may_added : (contents : Contents) (files : List FileRef) (content added : Option Staged) → MayKeep contents content → AddsSome files content added → MayKeep contents added
+may_added contents files None None may adds = may
+may_added contents files (Some s) None may adds = may.0
+may_added contents files content (Some s) may adds = subst (λ (o : Option Staged). MayKeep contents o) adds.is may
+
+pub names_added : (contents : Contents) (files : List FileRef) (content added : Option Staged) → All (Contains (kept_and contents.kept content)) files → AddsSome files content added → All (Contains (kept_and contents.kept added)) files
+names_added contents files None None named adds = named
+names_added contents files (Some s) None named adds = by s.fresh refl named
+  where
+    by : (fresh : Bool) → s.fresh ≡ fresh → All (Contains (cond fresh (contents.kept ++ s.file ∷ []) contents.kept)) files → All (Contains contents.kept) files
+    by false is all = all
+    by true is all = λ k d lt.
+        let file = get_or files k d in
+        ⊎_elim
+        (λ old. old)
+        (λ (same : s.file ≡ file). absurd (adds s (record { is = refl; fresh = is; named = (k, lt, get_or_default files k s.file d lt ∙ sym same) })))
+        (Contains-push_cases contents.kept s.file file (all k d lt))
+names_added contents files content (Some s) named adds = subst (λ (o : Option Staged). All (Contains (kept_and contents.kept o)) files) adds.is named
+
+pub room_added : (limit end : ℕ) (added : Option Staged) → (IsSomeAnd added (λ s. limit < end + s.file.len) → ⊥) → IfSome added (λ s. end + s.file.len ≤ limit)
+room_added limit end None not = tt
+room_added limit end (Some s) not = ⊎_elim (λ lt. absurd (not lt)) (λ le. le) (cases_lt limit (end + s.file.len))
+
+pub room_for : (limit most end : ℕ) (added : Option Staged) → limit ≤ most → IfSome added (λ s. end + s.file.len ≤ limit) → IfSome added (λ s. end + s.file.len ≤ most)
+room_for limit most end None le room = tt
+room_for limit most end (Some s) le room = omega (arith, le, room)
+
+pub passes_some : (v : View) (files : List FileRef) (content added : Option Staged) → AddsSome files content added → IsSomeAnd added (λ s. v.limits.blobs < end_of v.contents.kept + s.file.len) → PassesBlobs v files content
+passes_some v files content None adds passes = absurd passes
+passes_some v files content (Some s) adds passes = record { staged = s; added = adds; passes = passes }
+
+pub passes_not : (v : View) (files : List FileRef) (content added : Option Staged) → AddsSome files content added → (IsSomeAnd added (λ s. v.limits.blobs < end_of v.contents.kept + s.file.len) → ⊥) → PassesBlobs v files content → ⊥
+passes_not v files content None adds not passes = adds passes.staged passes.added
+passes_not v files content (Some s) adds not passes =
+    let same : passes.staged ≡ s = some_is passes.staged s (sym passes.added.is ∙ adds.is) in
+    not (subst (λ (t : Staged). v.limits.blobs < end_of v.contents.kept + t.file.len) same passes.passes)
+
+pub both_never : {P Q : Type 0} → (P → ⊥) → (Q → ⊥) → P ↔ Q
+both_never p q = (λ x. absurd (p x), λ y. absurd (q y))
+
+-- kept ones stay kept
+pub and_contains : (kept : List FileRef) (added : Option Staged) (file : FileRef) → Contains kept file → Contains (kept_and kept added) file
+and_contains kept None file is = is
+and_contains kept (Some s) file is = by s.fresh
+  where
+    by : (fresh : Bool) → Contains (cond fresh (kept ++ s.file ∷ []) kept) file
+    by true = Contains-append_left kept (s.file ∷ []) file is
+    by false = is

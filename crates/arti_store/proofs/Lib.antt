@@ -6,3 +6,4 @@ mod References
 mod Holdings
 mod Commits
 mod Openings
+mod Redoing

@@ -13,5 +13,10 @@ mod rows;
 mod store;
 
 pub use fault::{CommitFault, ContentFault, OpenFault};
-pub use laws::{images_stand, stores_stay};
+pub use laws::{contents_are_whole, images_stand, stores_stay};
 pub use store::Store;
+
+#[cfg(test)]
+mod quiet;
+#[cfg(test)]
+mod tests;

@@ -1,5 +1,5 @@
 // The store.
-ghost use Rattle.std.specs.Prelude.{◌≡◌, ◌≢◌, ◌↔◌, ◌⊎◌, ◌+◌, ◌^◌, ◌<◌, ◌≤◌, ◌++◌, ℕ, List, [], length, take, All, Contains, Option, None, Some, Err, IsTrue, IsSome, IfOk, IfErr, IfSome, OnOk, OnErr, IsErrOf, IfNone, IsSomeAnd, Ok, false, option_map};
+ghost use Rattle.std.specs.Prelude.{◌≡◌, ◌≢◌, ◌↔◌, ◌⊎◌, ◌+◌, ◌^◌, ◌<◌, ◌≤◌, ◌++◌, ℕ, List, [], length, take, All, Contains, Option, None, Some, Err, IsTrue, IsSome, IfOk, IfErr, IfSome, OnOk, OnErr, IsErrOf, IsSomeAnd, Ok, false, option_map, is_none};
 ghost use Rattle.std.specs.Option.{option_copied};
 ghost use Rattle.arti_rows.specs.declared.rows.FileRef.{FileRef};
 ghost use Rattle.arti_rows.specs.declared.rows.ItemRow.{ItemRow};
@@ -9,12 +9,13 @@ ghost use Rattle.arti_blobs.specs.Digests.{digests_of};
 ghost use Rattle.arti_blobs.specs.Contents.{content, end_of, HasPair, Stages, staged_length, HoldsStaged};
 ghost use Rattle.arti_codec.specs.ChangeBytes.{HasBytes, ChangeBytes};
 ghost use Rattle.arti_model.specs.Store.{find_item};
-ghost use Rattle.arti_model.specs.Apply.{Holding, apply, refusal};
+ghost use Rattle.arti_model.specs.Apply.{Holding, apply, refusal, edit_refusal};
 ghost use Rattle.arti_store.specs.Items.{InOrder, HasFileIn, file_in, item_in, items_in, find_row};
 ghost use Rattle.arti_store.specs.Changes.{references_of};
 ghost use Rattle.arti_store.specs.Store.{holding_of, Stands, HoldsStore, Standing, Reopening, kept_and, MayKeep, IsStaged, PassesBlobs, PassesJournal, next_of, Committing};
 
 use crate::commit::{added, frame_change, take_up};
+use crate::judging::accepts;
 use crate::opening::open_contents;
 use crate::replaying::replay;
 use crate::rows::Rows;
@@ -22,8 +23,8 @@ use crate::{CommitFault, ContentFault, OpenFault};
 use arti_blobs::{Blobs, StageFault, Staged};
 use arti_ground::Ground;
 use arti_journal::{AppendFault, Framed, Journal, JournalFault};
-use arti_rows::{Change, FileRef, ItemKey, ItemRow, Limits, Which};
-use std::alloc::Global;
+use arti_rows::{Change, Edit, FileRef, ItemKey, ItemRow, Limits, Which};
+use std::alloc::{AllocError, Global};
 use std::marker::Model;
 
 /// A store in the files 1 and 3 of the ground that is handed in beside it. Contracts see its rows, its contents, how much is
@@ -135,11 +136,11 @@ impl Store {
         ensures count { OnOk result (self.new.commits ≡ next_of self.old.commits) }
         ensures limits { self.new.limits ≡ self.old.limits }
         ensures longer { OnOk result ((body : List ℕ) → ChangeBytes body change → self.new.used ≡ self.old.used + 5 + length body) }
-        ensures staging { OnOk result (self.new.contents.staging ≡ None) }
+        ensures staging { self.new.contents.staging ≡ self.old.contents.staging }
         ensures holding { G.tells → OnOk result (holding_of ((G.state outside.new).files 3) self.new
             ≡ apply (file_in ((G.state outside.old).files 3)) change (holding_of ((G.state outside.old).files 3) self.old)) }
         ensures contents { G.tells → OnOk result ((G.state outside.new).files 3 ≡ (G.state outside.old).files 3) }
-        ensures holds { G.tells → OnOk result (HoldsStore (G.state outside.new) self.new) }
+        ensures holds { G.tells → HoldsStore (G.state outside.new) self.new }
         ensures durable { G.tells → OnOk result (IsDurable (G.state outside.new)) }
         ensures moments { G.tells → self.old.closed ≡ None → (body : List ℕ) → ChangeBytes body change
             → Passes (G.state outside.old) (G.state outside.new) (Committing (G.state outside.old) self.old.limits
@@ -303,6 +304,13 @@ impl Store {
         ensures files { All (HasFileIn self.now.contents.kept) self.now.rows }
     {
         self.rows.as_slice()
+    }
+
+    /// Whether a change of this edit alone is accepted.
+    pub fn accepts(&self, alloc: Global, edit: &Edit) -> Result<bool, AllocError>
+        ensures { IfOk result (λ b. (bytes : List ℕ) → b ≡ is_none (edit_refusal self.now.limits edit.now (items_in bytes self.now.rows))) }
+    {
+        accepts(alloc, &self.limits, edit, &self.rows)
     }
 
     /// The limits that it was opened with.
