@@ -37,7 +37,7 @@ accepted_push : (limits : Limits) (g : FileRef → File) (changes : List Change)
 accepted_push limits g [] change h accepted none = (none, tt)
 accepted_push limits g (c ∷ changes) change h accepted none = (accepted.0, accepted_push limits g changes change (apply g c h) accepted.1 none)
 
-zip_push : (bodies : List (List ℕ)) (changes : List Change) (body : List ℕ) (change : Change) → AllZip ChangeBytes bodies changes → ChangeBytes body change → AllZip ChangeBytes (bodies ++ body ∷ []) (changes ++ change ∷ [])
+pub zip_push : (bodies : List (List ℕ)) (changes : List Change) (body : List ℕ) (change : Change) → AllZip ChangeBytes bodies changes → ChangeBytes body change → AllZip ChangeBytes (bodies ++ body ∷ []) (changes ++ change ∷ [])
 zip_push [] [] body change each one = (one, tt)
 zip_push [] (c ∷ changes) body change each one = absurd each
 zip_push (b ∷ bodies) [] body change each one = absurd each
@@ -61,6 +61,60 @@ makes_push limits changes bytes kept all h change makes none more = record {
   short = more.short;
 }
 
+-- ---- what is added of a staged content
+
+some_is : (a b : Staged) → Some a ≡ Some b → a ≡ b
+some_is a b e = cc
+
+pub may_added : (contents : Contents) (files : List FileRef) (content added : Option Staged) → MayKeep contents content → AddsSome files content added → MayKeep contents added
+may_added contents files None None may adds = may
+may_added contents files (Some s) None may adds = may.0
+may_added contents files content (Some s) may adds = subst (λ (o : Option Staged). MayKeep contents o) adds.is may
+
+pub names_added : (contents : Contents) (files : List FileRef) (content added : Option Staged) → All (Contains (kept_and contents.kept content)) files → AddsSome files content added → All (Contains (kept_and contents.kept added)) files
+names_added contents files None None named adds = named
+names_added contents files (Some s) None named adds = by s.fresh refl named
+  where
+    by : (fresh : Bool) → s.fresh ≡ fresh → All (Contains (cond fresh (contents.kept ++ s.file ∷ []) contents.kept)) files → All (Contains contents.kept) files
+    by false is all = all
+    by true is all = λ k d lt.
+        let file = get_or files k d in
+        ⊎_elim
+        (λ old. old)
+        (λ (same : s.file ≡ file). absurd (adds s (record { is = refl; fresh = is; named = (k, lt, get_or_default files k s.file d lt ∙ sym same) })))
+        (Contains-push_cases contents.kept s.file file (all k d lt))
+names_added contents files content (Some s) named adds = subst (λ (o : Option Staged). All (Contains (kept_and contents.kept o)) files) adds.is named
+
+pub room_added : (limit end : ℕ) (added : Option Staged) → (IsSomeAnd added (λ s. limit < end + s.file.len) → ⊥) → IfSome added (λ s. end + s.file.len ≤ limit)
+room_added limit end None not = tt
+room_added limit end (Some s) not = ⊎_elim (λ lt. absurd (not lt)) (λ le. le) (cases_lt limit (end + s.file.len))
+
+pub room_for : (limit most end : ℕ) (added : Option Staged) → limit ≤ most → IfSome added (λ s. end + s.file.len ≤ limit) → IfSome added (λ s. end + s.file.len ≤ most)
+room_for limit most end None le room = tt
+room_for limit most end (Some s) le room = omega (arith, le, room)
+
+pub passes_some : (v : View) (files : List FileRef) (content added : Option Staged) → AddsSome files content added → IsSomeAnd added (λ s. v.limits.blobs < end_of v.contents.kept + s.file.len) → PassesBlobs v files content
+passes_some v files content None adds passes = absurd passes
+passes_some v files content (Some s) adds passes = record { staged = s; added = adds; passes = passes }
+
+pub passes_not : (v : View) (files : List FileRef) (content added : Option Staged) → AddsSome files content added → (IsSomeAnd added (λ s. v.limits.blobs < end_of v.contents.kept + s.file.len) → ⊥) → PassesBlobs v files content → ⊥
+passes_not v files content None adds not passes = adds passes.staged passes.added
+passes_not v files content (Some s) adds not passes =
+    let same : passes.staged ≡ s = some_is passes.staged s (sym passes.added.is ∙ adds.is) in
+    not (subst (λ (t : Staged). v.limits.blobs < end_of v.contents.kept + t.file.len) same passes.passes)
+
+pub both_never : {P Q : Type 0} → (P → ⊥) → (Q → ⊥) → P ↔ Q
+both_never p q = (λ x. absurd (p x), λ y. absurd (q y))
+
+-- kept ones stay kept
+pub and_contains : (kept : List FileRef) (added : Option Staged) (file : FileRef) → Contains kept file → Contains (kept_and kept added) file
+and_contains kept None file is = is
+and_contains kept (Some s) file is = by s.fresh
+  where
+    by : (fresh : Bool) → Contains (cond fresh (kept ++ s.file ∷ []) kept) file
+    by true = Contains-append_left kept (s.file ∷ []) file is
+    by false = is
+
 -- ---- what is kept with a staged content
 
 module _ (bytes : List ℕ) (contents : Contents) (files : List FileRef) (distinct : AreDistinct bytes contents.kept) (within : end_of contents.kept ≤ length bytes) (short : end_of contents.kept ≤ 2 ^ 62) where
@@ -70,21 +124,9 @@ module _ (bytes : List ℕ) (contents : Contents) (files : List FileRef) (distin
   nothing_more : All (Contains kept) files → IsKept bytes kept kept files
   nothing_more named = record { keeps = keeps_none files kept named; distinct = distinct; within = within; short = short }
 
-  -- each of them is kept already, where none is the staged one
-  only_kept : (staged : Staged) (fresh : Bool) → staged.fresh ≡ fresh → (IsAdded files (Some staged) staged → ⊥) → All (Contains (cond fresh (kept ++ staged.file ∷ []) kept)) files → All (Contains kept) files
-  only_kept staged false is not_added named = named
-  only_kept staged true is not_added named = λ k d lt.
-      let file = get_or files k d in
-      ⊎_elim
-      (λ old. old)
-      (λ (same : staged.file ≡ file). absurd (not_added (record { is = refl; fresh = is; named = (k, lt, get_or_default files k staged.file d lt ∙ sym same) })))
-      (Contains-push_cases kept staged.file file (named k d lt))
-
-  kept_by : (content added : Option Staged) → All (Contains (kept_and kept content)) files → AddsSome files content added → IsStaged bytes kept content → MayKeep contents content
+  pub kept_by : (content added : Option Staged) → All (Contains (kept_and kept content)) files → AddsSome files content added → IsStaged bytes kept content → MayKeep contents content
       → IfSome added (λ s. end_of kept + s.file.len ≤ 2 ^ 62) → IsKept bytes kept (kept_and kept added) files
-  kept_by None None named adds staged may room = nothing_more named
-  kept_by (Some s) None named adds staged may room =
-      nothing_more (only_kept s s.fresh refl (adds s) named)
+  kept_by content None named adds staged may room = nothing_more (names_added contents files content None named adds)
   kept_by content (Some s) named adds staged may room =
       let fresh : s.fresh ≡ true = adds.fresh in
       let is_fresh : IsFresh bytes kept s.file = subst (λ (o : Option Staged). IsStaged bytes kept o) adds.is staged fresh in
@@ -108,103 +150,6 @@ records-push (b ∷ bodies) body =
 
 pub length-opened : (bodies : List (List ℕ)) (body : List ℕ) → length (opened (bodies ++ body ∷ [])) ≡ length (opened bodies) + length body + 5
 length-opened bodies body = omega (arith, records-push bodies body, length-append header (records bodies), length-append header (records (bodies ++ body ∷ [])))
-
--- ---- images
-
-pub image_stands : (s : State) (v : View) → HoldsOpen s v → (c : Bytes) → s.may_leave c → Stands v.limits c (holding_of (s.files 3) v) v.used
-image_stands s v holds c left = record {
-  bodies = holds.bodies;
-  changes = holds.changes;
-  kept = v.contents.kept;
-  journal = inr (holds.journal.images c left);
-  each = holds.each;
-  makes = holds.images c left;
-  used_is = holds.journal.length_is;
-}
-
-pub read_stands : (s : State) (v : View) → HoldsOpen s v → Stands v.limits s.files (holding_of (s.files 3) v) v.used
-read_stands s v holds = record {
-  bodies = holds.bodies;
-  changes = holds.changes;
-  kept = v.contents.kept;
-  journal = inr holds.journal.reads;
-  each = holds.each;
-  makes = holds.reads;
-  used_is = holds.journal.length_is;
-}
-
--- ---- calls that leave what is kept
-
-module _ (old new : State) (v : View) (staging : Option Staging) (has : All (HasFileIn v.contents.kept) v.rows) (holds : HoldsOpen old v) where
-  abbrev later : View
-  later = record v { contents = record { kept = v.contents.kept; staging = staging } }
-
-  abbrev end : ℕ
-  end = end_of v.contents.kept
-
-  pub holding_stays : KeepsFront end old.files new.files → holding_of (new.files 3) later ≡ holding_of (old.files 3) v
-  holding_stays front = seen_stays (old.files 3) (new.files 3) (references holds.changes) v.contents.kept holds.reads.refer front.here v.rows has
-
-  pub store_stays : KeepsFront end old.files new.files → Follows (KeepsFront end) old new → HoldsContents new later.contents → HoldsOpen new later
-  store_stays front images contents =
-      let same = holding_stays front in
-      let limits = v.limits in
-      record {
-        bodies = holds.bodies;
-        changes = holds.changes;
-        journal = record {
-          reads = subst (λ (b : List ℕ). StandsFor holds.bodies b) (sym (front.others 1 (omega arith))) holds.journal.reads;
-          images = λ c left. let was = images c left in subst (λ (b : List ℕ). StandsFor holds.bodies b) (sym (was.2.others 1 (omega arith))) (holds.journal.images was.0 was.1);
-          length_is = holds.journal.length_is;
-        };
-        each = holds.each;
-        reads = subst (λ (h : Holding). Makes limits holds.changes (new.files 3) v.contents.kept h) (sym same)
-            (makes_stays limits holds.changes (old.files 3) (new.files 3) v.contents.kept (holding_of (old.files 3) v) front.here holds.reads);
-        images = λ c left.
-            let was = images c left in
-            subst (λ (h : Holding). Makes limits holds.changes (c 3) v.contents.kept h) (sym same)
-            (makes_stays limits holds.changes (was.0 3) (c 3) v.contents.kept (holding_of (old.files 3) v) was.2.here (holds.images was.0 was.1));
-        contents = contents;
-      }
-
-  pub standing : Passes old new (Behind old end) → Passes old new (Standing old v)
-  standing passes = passes_map old new (Behind old end) (Standing old v) (λ c w here. record {
-      told = here.told;
-      image = record {
-        bodies = holds.bodies;
-        changes = holds.changes;
-        kept = v.contents.kept;
-        journal = inr (subst (λ (b : List ℕ). StandsFor holds.bodies b) (sym (here.front.others 1 (omega arith))) (holds.journal.images here.from here.was));
-        each = holds.each;
-        makes = makes_stays v.limits holds.changes (here.from 3) (c 3) v.contents.kept (holding_of (old.files 3) v) here.front.here (holds.images here.from here.was);
-        used_is = holds.journal.length_is;
-      };
-    }) passes
-
--- calls that read leave it too
-pub reads_front : (end : ℕ) (old new : State) → LeavesDisk old new → KeepsFront end old.files new.files × Follows (KeepsFront end) old new
-reads_front end old new disk = (
-  record { here = ap (λ (b : Bytes). take end (b 3)) disk.files; others = λ f ne. ap (λ (b : Bytes). b f) disk.files },
-  λ c left. (c, disk.images c left, record { here = refl; others = λ f ne. refl }),
-)
-
--- a call that leaves the disk leaves the store
-pub disk_stays : (old new : State) (v : View) → LeavesDisk old new → HoldsOpen old v → HoldsOpen new v
-disk_stays old new v disk holds =
-    let third : new.files 3 ≡ old.files 3 = ap (λ (b : Bytes). b 3) disk.files in
-    record {
-      bodies = holds.bodies;
-      changes = holds.changes;
-      journal = record {
-        reads = subst (λ (b : Bytes). StandsFor holds.bodies (b 1)) (sym disk.files) holds.journal.reads;
-        images = λ c left. holds.journal.images c (disk.images c left);
-        length_is = holds.journal.length_is;
-      };
-      each = holds.each;
-      reads = subst (λ (b : List ℕ). Makes v.limits holds.changes b v.contents.kept (holding_of b v)) (sym third) holds.reads;
-      images = λ c left. subst (λ (b : List ℕ). Makes v.limits holds.changes (c 3) v.contents.kept (holding_of b v)) (sym third) (holds.images c (disk.images c left));
-      contents = omega (arith, holds.contents, ap length third);
-    }
 
 -- ---- a commit
 
@@ -282,57 +227,3 @@ module _ (start end : State) (v : View) (change : Change) (body : List ℕ) (all
       images = λ c left. subst (λ (b : Bytes). Makes next.limits (holds.changes ++ change ∷ []) (b 3) next.contents.kept (holding_of (end.files 3) next)) (sym (durable c left)) made_then;
       contents = omega (arith, ap staged_length staging, ap end_of kept_is, more.within, ap length third);
     }
-
--- ---- what is added of a staged content
-
-some_is : (a b : Staged) → Some a ≡ Some b → a ≡ b
-some_is a b e = cc
-
-pub may_added : (contents : Contents) (files : List FileRef) (content added : Option Staged) → MayKeep contents content → AddsSome files content added → MayKeep contents added
-may_added contents files None None may adds = may
-may_added contents files (Some s) None may adds = may.0
-may_added contents files content (Some s) may adds = subst (λ (o : Option Staged). MayKeep contents o) adds.is may
-
-pub names_added : (contents : Contents) (files : List FileRef) (content added : Option Staged) → All (Contains (kept_and contents.kept content)) files → AddsSome files content added → All (Contains (kept_and contents.kept added)) files
-names_added contents files None None named adds = named
-names_added contents files (Some s) None named adds = by s.fresh refl named
-  where
-    by : (fresh : Bool) → s.fresh ≡ fresh → All (Contains (cond fresh (contents.kept ++ s.file ∷ []) contents.kept)) files → All (Contains contents.kept) files
-    by false is all = all
-    by true is all = λ k d lt.
-        let file = get_or files k d in
-        ⊎_elim
-        (λ old. old)
-        (λ (same : s.file ≡ file). absurd (adds s (record { is = refl; fresh = is; named = (k, lt, get_or_default files k s.file d lt ∙ sym same) })))
-        (Contains-push_cases contents.kept s.file file (all k d lt))
-names_added contents files content (Some s) named adds = subst (λ (o : Option Staged). All (Contains (kept_and contents.kept o)) files) adds.is named
-
-pub room_added : (limit end : ℕ) (added : Option Staged) → (IsSomeAnd added (λ s. limit < end + s.file.len) → ⊥) → IfSome added (λ s. end + s.file.len ≤ limit)
-room_added limit end None not = tt
-room_added limit end (Some s) not = ⊎_elim (λ lt. absurd (not lt)) (λ le. le) (cases_lt limit (end + s.file.len))
-
-pub room_for : (limit most end : ℕ) (added : Option Staged) → limit ≤ most → IfSome added (λ s. end + s.file.len ≤ limit) → IfSome added (λ s. end + s.file.len ≤ most)
-room_for limit most end None le room = tt
-room_for limit most end (Some s) le room = omega (arith, le, room)
-
-pub passes_some : (v : View) (files : List FileRef) (content added : Option Staged) → AddsSome files content added → IsSomeAnd added (λ s. v.limits.blobs < end_of v.contents.kept + s.file.len) → PassesBlobs v files content
-passes_some v files content None adds passes = absurd passes
-passes_some v files content (Some s) adds passes = record { staged = s; added = adds; passes = passes }
-
-pub passes_not : (v : View) (files : List FileRef) (content added : Option Staged) → AddsSome files content added → (IsSomeAnd added (λ s. v.limits.blobs < end_of v.contents.kept + s.file.len) → ⊥) → PassesBlobs v files content → ⊥
-passes_not v files content None adds not passes = adds passes.staged passes.added
-passes_not v files content (Some s) adds not passes =
-    let same : passes.staged ≡ s = some_is passes.staged s (sym passes.added.is ∙ adds.is) in
-    not (subst (λ (t : Staged). v.limits.blobs < end_of v.contents.kept + t.file.len) same passes.passes)
-
-pub both_never : {P Q : Type 0} → (P → ⊥) → (Q → ⊥) → P ↔ Q
-both_never p q = (λ x. absurd (p x), λ y. absurd (q y))
-
--- kept ones stay kept
-pub and_contains : (kept : List FileRef) (added : Option Staged) (file : FileRef) → Contains kept file → Contains (kept_and kept added) file
-and_contains kept None file is = is
-and_contains kept (Some s) file is = by s.fresh
-  where
-    by : (fresh : Bool) → Contains (cond fresh (kept ++ s.file ∷ []) kept) file
-    by true = Contains-append_left kept (s.file ∷ []) file is
-    by false = is

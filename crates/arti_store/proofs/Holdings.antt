@@ -24,7 +24,8 @@ use Rattle.arti_store.specs.Changes.{edit_references, references_of, references}
 use Rattle.arti_store.specs.Edited.{has_row, missing_above, folder_row, folders_for, file_row, counted_row, rows_with_folder, rows_edited, rows_edited_by, rows_after, accepts_changes}
 use Rattle.arti_store.specs.Store.{View, holding_of, AreDistinct, Makes}
 use Rattle.arti_store.proofs.References.{keeps_front, keeps_each, keeps_within}
-use Rattle.arti_store.proofs.Verdicts.{accepted_seen, accepts_seen, items_applied}
+use Rattle.arti_store.proofs.Views.{items_applied}
+use Rattle.arti_store.proofs.Verdicts.{accepted_seen, accepts_seen}
 
 -- ---- the kept pairs
 
@@ -76,17 +77,17 @@ module _ (g : FileRef → File) where
   keep_old : (kept : List FileRef) (file : FileRef) → Contains kept file → keep (g file) (map g kept) ≡ map g kept
   keep_old kept file is =
       let at : get_or (map g kept) is.0 (g file) ≡ g file = get_or-map g kept is.0 file (g file) is.1 ∙ ap g is.2 in
-      let yes : list_any (same_file (g file)) (map g kept) ≡ true =
+      let its : list_any (same_file (g file)) (map g kept) ≡ true =
       list_any_at (same_file (g file)) (map g kept) is.0 (g file) (omega (arith, length-map kept g, is.1)) (ap (same_file (g file)) at ∙ same_itself (g file)) in
-      ap (λ b. cond b (map g kept) (map g kept ++ g file ∷ [])) yes
+      ap (λ b. cond b (map g kept) (map g kept ++ g file ∷ [])) its
 
   keep_new : (kept : List FileRef) (file : FileRef) → All (λ old. g old ≢ g file) kept → keep (g file) (map g kept) ≡ map g (kept ++ file ∷ [])
   keep_new kept file others =
-      let no : list_any (same_file (g file)) (map g kept) ≡ false =
+      let none : list_any (same_file (g file)) (map g kept) ≡ false =
       list_any_none (same_file (g file)) (map g kept)
       (All-map (λ f. same_file (g file) f ≡ false) g kept
       (All-weaker (λ old. g old ≢ g file) (λ old. same_file (g file) (g old) ≡ false) (λ old ne. not_same (same_file (g file) (g old)) (λ e. ne (sym (same_pair (g file) (g old) e)))) kept others)) in
-      ap (λ b. cond b (map g kept) (map g kept ++ g file ∷ [])) no ∙ sym (map-append g kept (file ∷ []))
+      ap (λ b. cond b (map g kept) (map g kept ++ g file ∷ [])) none ∙ sym (map-append g kept (file ∷ []))
 
   keep_all-append : (files others kept : List File) → keep_all (files ++ others) kept ≡ keep_all others (keep_all files kept)
   keep_all-append [] others kept = refl
@@ -175,8 +176,8 @@ module _ (bytes : List ℕ) where
 -- changes that are accepted make what their rows and contents are
 pub makes_seen : (limits : Limits) (changes : List Change) (bytes : List ℕ) (kept : List FileRef) → accepts_changes limits changes [] ≡ true → Keeps [] (references changes) kept
     → AreDistinct bytes kept → end_of kept ≤ length bytes → end_of kept ≤ 2 ^ 62 → Makes limits changes bytes kept (seen bytes (rows_after changes []) kept)
-makes_seen limits changes bytes kept yes keeps distinct within short = record {
-  accepted = accepted_seen limits bytes changes nothing_kept [] refl yes;
+makes_seen limits changes bytes kept its keeps distinct within short = record {
+  accepted = accepted_seen limits bytes changes nothing_kept [] refl its;
   made = sym (made_seen bytes changes kept keeps distinct);
   refer = keeps;
   distinct = distinct;
@@ -189,7 +190,7 @@ makes_accepts limits changes bytes kept h makes = accepts_seen limits bytes chan
 
 -- ---- the contents of rows are kept
 
-split : {X : Type 0} (P : X → Type 0) (xs ys : List X) → All P (xs ++ ys) → All P xs × All P ys
+pub split : {X : Type 0} (P : X → Type 0) (xs ys : List X) → All P (xs ++ ys) → All P xs × All P ys
 split P [] ys all = (All-nil P, all)
 split P (x ∷ xs) ys all =
     let rest = split P xs ys (All-tail P x (xs ++ ys) all) in
@@ -320,10 +321,10 @@ module _ (bytes others : List ℕ) (files kept : List FileRef) (refer : Keeps []
 -- what changes make stays
 pub makes_stays : (limits : Limits) (changes : List Change) (bytes others : List ℕ) (kept : List FileRef) (h : Holding) → take (end_of kept) others ≡ take (end_of kept) bytes → Makes limits changes bytes kept h → Makes limits changes others kept h
 makes_stays limits changes bytes others kept h front makes =
-    let yes = makes_accepts limits changes bytes kept h makes in
+    let its = makes_accepts limits changes bytes kept h makes in
     let rows = rows_after changes [] in
     let has : All (HasFileIn kept) rows = has_after kept changes [] (All-nil (HasFileIn kept)) (keeps_each (references changes) [] kept makes.refer) in
     let made : h ≡ seen bytes rows kept = makes.made ∙ made_seen bytes changes kept makes.refer makes.distinct in
     let within : end_of kept ≤ length others = omega (arith, ap length front, length-take (end_of kept) others, length-take (end_of kept) bytes, makes.within) in
     subst (λ (x : Holding). Makes limits changes others kept x) (seen_stays bytes others (references changes) kept makes.refer front rows has ∙ sym made)
-    (makes_seen limits changes others kept yes makes.refer (distinct_stays bytes others (references changes) kept makes.refer front makes.distinct) within makes.short)
+    (makes_seen limits changes others kept its makes.refer (distinct_stays bytes others (references changes) kept makes.refer front makes.distinct) within makes.short)

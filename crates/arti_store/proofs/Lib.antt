@@ -4,6 +4,7 @@ mod Views
 mod Verdicts
 mod References
 mod Holdings
+pub mod Images
 mod Commits
 mod Openings
 mod Redoing

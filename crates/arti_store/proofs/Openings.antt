@@ -20,18 +20,10 @@ use Rattle.arti_store.specs.Changes.{references}
 use Rattle.arti_store.specs.Edited.{rows_after, accepts_changes}
 use Rattle.arti_store.specs.Replays.{Replays, ReplaysNot}
 use Rattle.arti_store.specs.Store.{View, holding_of, AreDistinct, Makes, Stands, HoldsOpen, Reopening}
-use Rattle.arti_store.proofs.References.{keeps_within}
+use Rattle.arti_store.proofs.References.{content_length, each_within}
 use Rattle.arti_store.proofs.Holdings.{makes_seen, makes_accepts, seen}
 
 -- ---- contents that differ
-
-pub content_length : (bytes : List ℕ) (file : FileRef) → file.place + file.len ≤ length bytes → length (content bytes file) ≡ file.len
-content_length bytes file le = omega (arith, length-take file.len (drop file.place bytes), length-drop file.place bytes)
-
-pub each_within : (bytes : List ℕ) (files kept : List FileRef) → Keeps [] files kept → end_of kept ≤ length bytes → All (λ file. file.place + file.len ≤ length bytes) kept
-each_within bytes files kept keeps le =
-    All-weaker (λ (f : FileRef). f.place + f.len ≤ end_of kept) (λ (f : FileRef). f.place + f.len ≤ length bytes) (λ f h. omega arith) kept
-    (keeps_within files [] kept (All-nil (λ (f : FileRef). f.place + f.len ≤ 0)) keeps)
 
 module _ (bytes : List ℕ) (files kept : List FileRef) (keeps : Keeps [] files kept) (within : end_of kept ≤ length bytes) where
   same_from_pair : (a b : FileRef) → a.place + a.len ≤ length bytes → b.place + b.len ≤ length bytes → file_in bytes a ≡ file_in bytes b → IsSame bytes b a

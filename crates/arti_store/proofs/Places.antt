@@ -1,13 +1,13 @@
 -- Where rows stand among others in the default order, and what is put there.
 use Rattle.std.proofs.Common.{◌≡◌, ℕ, ◌+◌, ◌<◌, ◌≤◌, zero, suc, Bool, true, false, cond, List, [], ◌∷◌, ◌++◌, length, get_or, take, drop, refl, sym, ap, subst, ◌∙◌, arith, Ordering, Less, Equal, Greater, ⊎_elim, length-take, length-drop, set, drop-cons, add-one, Option, Some, None, Vec, Global}
-use Rattle.std.specs.Prelude.{All, filter, map, IfOk, IfErr, Result, Ok, Err, MatchResult, ◌&&◌, is_some, option_map}
+use Rattle.std.specs.Prelude.{All, filter, map, IfOk, IfErr, Result, Ok, Err, MatchResult, ◌&&◌, ◌||◌, is_some, option_map}
 use Rattle.std.specs.List.{AllPairs, HoldsAt, insert, find, list_any}
 use Rattle.std.specs.List.Sorted.{IsNonDecreasingBy, IsPartitionPoint, IsBinarySearchResult, IsSearchInRange}
 use Rattle.std.specs.Ordering.{is_lt, ordering_index}
 use Rattle.std.specs.Vec.{vec_len, vec_capacity}
 use Rattle.std.proofs.lemmas.Cmp.{tied_back, alike_right}
 use Rattle.std.proofs.lemmas.Bool.{cases_eq}
-use Rattle.std.proofs.lemmas.List.{get_or-take, get_or-drop, take-append-drop, append-nil, set_split, map-append, get_or_default}
+use Rattle.std.proofs.lemmas.List.{get_or-take, get_or-drop, take-append-drop, append-nil, set_split, map-append, get_or-map, length-map}
 use Rattle.std.proofs.lemmas.List.Elements.{All-head, All-tail, All-cons, All-append, All-weaker, filter-append, filter_passes}
 use Rattle.std.proofs.lemmas.List.Kept.{AllPairs-cons, AllPairs-filter}
 use Rattle.arti_rows.specs.Key.{Key, key_cmp}
@@ -42,46 +42,46 @@ one P x p zero d lt = p
 one P x p (suc k) d lt = absurd (omega arith)
 
 module _ (new : ItemRow) where
-  abbrev key : Key
-  key = new.key
+  abbrev its : Key
+  its = new.key
 
   abbrev less : ItemRow → Bool
-  less row = is_lt (key_cmp row.key key)
+  less row = is_lt (key_cmp row.key its)
 
   abbrev more : ItemRow → Bool
-  more row = is_lt (key_cmp key row.key)
+  more row = is_lt (key_cmp its row.key)
 
-  -- three parts: those before, those of the same key, those behind
+  -- three parts: those before, those of the same its, those behind
   three : (p : ItemRow → Bool) (a m b : List ItemRow) → filter p (a ++ (m ++ b)) ≡ filter p a ++ (filter p m ++ filter p b)
   three p a m b = filter-append p a (m ++ b) ∙ ap (λ l. filter p a ++ l) (filter-append p m b)
 
-  pub put_between : (a m b : List ItemRow) → All (λ (row : ItemRow). key_cmp row.key key ≡ Less) a → All (λ (row : ItemRow). key_cmp row.key key ≡ Equal) m
-      → All (λ (row : ItemRow). key_cmp key row.key ≡ Less) b → put_row new (a ++ (m ++ b)) ≡ a ++ new ∷ b
+  pub put_between : (a m b : List ItemRow) → All (λ (row : ItemRow). key_cmp row.key its ≡ Less) a → All (λ (row : ItemRow). key_cmp row.key its ≡ Equal) m
+      → All (λ (row : ItemRow). key_cmp its row.key ≡ Less) b → put_row new (a ++ (m ++ b)) ≡ a ++ new ∷ b
   put_between a m b before here behind =
       let la = keeps less a (λ k d lt. ap is_lt (before k d lt)) in
       let lm = drops less m (λ k d lt. ap is_lt (here k d lt)) in
-      let lb = drops less b (λ k d lt. ap is_lt (to_greater key _ (behind k d lt))) in
-      let ma = drops more a (λ k d lt. ap is_lt (to_greater _ key (before k d lt))) in
-      let mm = drops more m (λ k d lt. ap is_lt (tied_back total _ key (here k d lt))) in
+      let lb = drops less b (λ k d lt. ap is_lt (to_greater its _ (behind k d lt))) in
+      let ma = drops more a (λ k d lt. ap is_lt (to_greater _ its (before k d lt))) in
+      let mm = drops more m (λ k d lt. ap is_lt (tied_back total _ its (here k d lt))) in
       let mb = keeps more b (λ k d lt. ap is_lt (behind k d lt)) in
       let front : filter less (a ++ (m ++ b)) ≡ a = three less a m b ∙ parts _ _ _ a la lm lb in
       let back : filter more (a ++ (m ++ b)) ≡ b = three more a m b ∙ last _ _ _ b ma mm mb in
       ap (λ l. l ++ new ∷ filter more (a ++ (m ++ b))) front ∙ ap (λ l. a ++ new ∷ l) back
 
   -- a row comes into a gap
-  pub put_in_gap : (rows : List ItemRow) (at : ℕ) → IsGap rows key at → insert rows at new ≡ put_row new rows
+  pub put_in_gap : (rows : List ItemRow) (at : ℕ) → IsGap rows its at → insert rows at new ≡ put_row new rows
   put_in_gap rows at gap =
       sym (put_between (take at rows) [] (drop at rows) gap.before (λ k d lt. absurd (omega arith)) gap.behind)
       ∙ ap (λ l. put_row new l) (take-append-drop at rows)
 
   -- a row takes the place of another
-  pub put_in_place : (rows : List ItemRow) (at : ℕ) → IsPlace rows key at → set rows at new ≡ put_row new rows
+  pub put_in_place : (rows : List ItemRow) (at : ℕ) → IsPlace rows its at → set rows at new ≡ put_row new rows
   put_in_place rows at place =
       let old : ItemRow = get_or rows at new in
       let whole : take at rows ++ old ∷ drop (suc at) rows ≡ rows = ap (λ l. take at rows ++ l) (sym (drop-cons rows at new place.within)) ∙ take-append-drop at rows in
-      let behind : All (λ (row : ItemRow). key_cmp key row.key ≡ Less) (drop (suc at) rows) = subst (λ (n : ℕ). All (λ (row : ItemRow). key_cmp key row.key ≡ Less) (drop n rows)) (add-one at) place.behind in
+      let behind : All (λ (row : ItemRow). key_cmp its row.key ≡ Less) (drop (suc at) rows) = subst (λ (n : ℕ). All (λ (row : ItemRow). key_cmp its row.key ≡ Less) (drop n rows)) (add-one at) place.behind in
       set_split rows at new place.within
-      ∙ sym (put_between (take at rows) (old ∷ []) (drop (suc at) rows) place.before (one (λ (row : ItemRow). key_cmp row.key key ≡ Equal) old (place.here new)) behind)
+      ∙ sym (put_between (take at rows) (old ∷ []) (drop (suc at) rows) place.before (one (λ (row : ItemRow). key_cmp row.key its ≡ Equal) old (place.here new)) behind)
       ∙ ap (λ l. put_row new l) whole
 
 -- one more of several that are put
@@ -202,7 +202,7 @@ file_is key row = same_key row.key key && is_some row.file
 no_file_behind : (key : Key) (xs : List ItemRow) → All (λ (row : ItemRow). key_cmp key row.key ≡ Less) xs → has_file_row xs key ≡ false
 no_file_behind key [] all = refl
 no_file_behind key (x ∷ xs) all =
-    ap (λ b. cond (cond b (is_some x.file) false) true (list_any (file_is key) xs)) (other_at_greater x.key key (All-head (λ (row : ItemRow). key_cmp key row.key ≡ Less) x xs all))
+    ap (λ b. (b && is_some x.file) || list_any (file_is key) xs) (other_at_greater x.key key (All-head (λ (row : ItemRow). key_cmp key row.key ≡ Less) x xs all))
     ∙ no_file_behind key xs (All-tail (λ (row : ItemRow). key_cmp key row.key ≡ Less) x xs all)
 
 -- whether the row that is found is a file
@@ -210,22 +210,22 @@ abbrev pub is_file_at : Option ItemRow → Bool
 is_file_at None = false
 is_file_at (Some row) = is_some row.file
 
-any_by : (b : Bool) (rest : Bool) → rest ≡ false → cond b true rest ≡ b
+any_by : (b : Bool) (rest : Bool) → rest ≡ false → (b || rest) ≡ b
 any_by true rest e = refl
 any_by false rest e = e
 
 file_by : (o : Ordering) (key : Key) (x : ItemRow) (xs : List ItemRow) → key_cmp x.key key ≡ o → InOrder (x ∷ xs) → has_file_row xs key ≡ is_file_at (find_row xs key) → has_file_row (x ∷ xs) key ≡ is_file_at (find_row (x ∷ xs) key)
 file_by Less key x xs is_less order rest =
-    let no = other_at_less x.key key is_less in
-    ap (λ b. cond (cond b (is_some x.file) false) true (has_file_row xs key)) no ∙ rest ∙ sym (ap (λ b. is_file_at (cond b (Some x) (find_row xs key))) no)
+    let not_here = other_at_less x.key key is_less in
+    ap (λ b. (b && is_some x.file) || has_file_row xs key) not_here ∙ rest ∙ sym (ap (λ b. is_file_at (cond b (Some x) (find_row xs key))) not_here)
 file_by Equal key x xs is_equal order rest =
-    let yes = same_at_equal x.key key is_equal in
+    let is_here = same_at_equal x.key key is_equal in
     let behind : All (λ (row : ItemRow). key_cmp key row.key ≡ Less) xs = λ k d lt. sym (total.congr x.key key (get_or xs k d).key is_equal) ∙ order zero (suc k) d (omega arith) (omega arith) in
-    ap (λ b. cond (cond b (is_some x.file) false) true (has_file_row xs key)) yes ∙ any_by (is_some x.file) (has_file_row xs key) (no_file_behind key xs behind)
-    ∙ sym (ap (λ b. is_file_at (cond b (Some x) (find_row xs key))) yes)
+    ap (λ b. (b && is_some x.file) || has_file_row xs key) is_here ∙ any_by (is_some x.file) (has_file_row xs key) (no_file_behind key xs behind)
+    ∙ sym (ap (λ b. is_file_at (cond b (Some x) (find_row xs key))) is_here)
 file_by Greater key x xs is_greater order rest =
-    let no = other_at_greater x.key key (to_less x.key key is_greater) in
-    ap (λ b. cond (cond b (is_some x.file) false) true (has_file_row xs key)) no ∙ rest ∙ sym (ap (λ b. is_file_at (cond b (Some x) (find_row xs key))) no)
+    let not_here = other_at_greater x.key key (to_less x.key key is_greater) in
+    ap (λ b. (b && is_some x.file) || has_file_row xs key) not_here ∙ rest ∙ sym (ap (λ b. is_file_at (cond b (Some x) (find_row xs key))) not_here)
 
 -- in the default order the row that is found tells it
 pub file_found : (rows : List ItemRow) (key : Key) → InOrder rows → has_file_row rows key ≡ is_file_at (find_row rows key)
@@ -263,6 +263,13 @@ module _ (f : ItemRow → ItemRow) (key : Key) where
       ∙ ap (λ l. take at rows ++ l) (changes_none f key (drop at rows) (λ k e lt. other_at_greater _ key (gap.behind k e lt)))
       ∙ take-append-drop at rows
 
+-- rows that keep their keys keep their order
+pub change_in_order : (f : ItemRow → ItemRow) → ((row : ItemRow) → (f row).key ≡ row.key) → (rows : List ItemRow) → InOrder rows → InOrder (map f rows)
+change_in_order f same rows order = λ i j d lt within.
+    let inside : j < length rows = omega (arith, length-map rows f) in
+    let at : (k : ℕ) → k < length rows → (get_or (map f rows) k d).key ≡ (get_or rows k d).key = λ k below. ap (λ (row : ItemRow). row.key) (get_or-map f rows k d d below) ∙ same (get_or rows k d) in
+    ap (λ k. key_cmp k (get_or (map f rows) j d).key) (at i (omega arith)) ∙ ap (λ k. key_cmp (get_or rows i d).key k) (at j inside) ∙ order i j d lt inside
+
 -- ---- the order after a put
 
 less_by : (o : Ordering) → is_lt o ≡ true → o ≡ Less
@@ -297,7 +304,3 @@ put_in_order new rows order =
     (filter less rows) before)
     (AllPairs-filter Before less rows order)
     (AllPairs-cons Before new (filter more rows) behind (AllPairs-filter Before more rows order))
-
--- a row of the same key in the place of another keeps the order
-pub set_in_order : (rows : List ItemRow) (at : ℕ) (new : ItemRow) → IsPlace rows new.key at → InOrder rows → InOrder (set rows at new)
-set_in_order rows at new place order = subst InOrder (sym (put_in_place new rows at place)) (put_in_order new rows order)

@@ -47,13 +47,13 @@ redone_none limits = record { changes = []; each = tt; accepted = refl; rows_are
 -- one more
 pub redone_more : (limits : Limits) (bodies : List (List ℕ)) (rows : List ItemRow) (files : List FileRef) (body : List ℕ) (change : Change) → Replays limits bodies rows files → ChangeBytes body change → accepts_change limits change rows ≡ true
     → Replays limits (bodies ++ body ∷ []) (rows_edited_by change.moment change.user change.edits rows) (files ++ references_of change.edits)
-redone_more limits bodies rows files body change done one yes =
+redone_more limits bodies rows files body change done one its =
     let after : rows_after done.changes [] ≡ rows = sym done.rows_are in
     record {
       changes = done.changes ++ change ∷ [];
       each = zip_push bodies done.changes body change done.each one;
       accepted = accepts-append limits done.changes (change ∷ []) [] ∙ true_and (accepts_changes limits done.changes []) _ done.accepted
-          ∙ ap (λ (l : List ItemRow). accepts_change limits change l && true) after ∙ ap (λ b. b && true) yes;
+          ∙ ap (λ (l : List ItemRow). accepts_change limits change l && true) after ∙ ap (λ b. b && true) its;
       rows_are = sym (rows_after-push done.changes change [] ∙ ap (rows_edited_by change.moment change.user change.edits) after);
       files_are = ap (λ l. l ++ references_of change.edits) done.files_are ∙ sym (references-push done.changes change);
     }
@@ -83,11 +83,11 @@ redone_no_change limits bodies rest body none = λ changes each. let p = parts b
 pub redone_refused : (limits : Limits) (bodies rest : List (List ℕ)) (rows : List ItemRow) (files : List FileRef) (body : List ℕ) (change : Change) → Replays limits bodies rows files
     → ((bs : List (List ℕ)) (cs ds : List Change) → AllZip ChangeBytes bs cs → AllZip ChangeBytes bs ds → cs ≡ ds) → ((d : Change) → ChangeBytes body d → change ≡ d)
     → accepts_change limits change rows ≡ false → ReplaysNot limits (bodies ++ body ∷ rest)
-redone_refused limits bodies rest rows files body change done zips only no = λ changes each.
+redone_refused limits bodies rest rows files body change done zips only refused = λ changes each.
     let p = parts bodies rest body changes each in
     let same : p.before ≡ done.changes = zips bodies p.before done.changes p.each done.each in
     let at : accepts_change limits p.one (rows_after p.before []) ≡ false =
     ap (λ (c : Change). accepts_change limits c (rows_after p.before [])) (sym (only p.one p.here)) ∙ ap (λ (l : List Change). accepts_change limits change (rows_after l [])) same
-    ∙ ap (accepts_change limits change) (sym done.rows_are) ∙ no in
+    ∙ ap (accepts_change limits change) (sym done.rows_are) ∙ refused in
     ap (λ (l : List Change). accepts_changes limits l []) p.whole ∙ accepts-append limits p.before (p.one ∷ p.behind) []
     ∙ and_false (accepts_changes limits p.before []) _ (false_and (accepts_change limits p.one (rows_after p.before [])) _ at)

@@ -1,5 +1,5 @@
 -- References of kept contents.
-use Rattle.std.proofs.Common.{◌≡◌, inl, inr, ⊎_elim, ℕ, ◌+◌, ◌<◌, ◌≤◌, zero, suc, Bool, true, false, cond, List, [], ◌∷◌, ◌++◌, length, get_or, take, drop, refl, sym, ◌∙◌, ap, subst, arith, append_assoc}
+use Rattle.std.proofs.Common.{◌≡◌, inl, inr, ⊎_elim, ℕ, ◌+◌, ◌<◌, ◌≤◌, zero, suc, Bool, true, false, cond, List, [], ◌∷◌, ◌++◌, length, get_or, take, drop, refl, sym, ◌∙◌, ap, subst, arith, append_assoc, length-take, length-drop}
 use Rattle.std.specs.Prelude.{All, AllPairs, Contains, ◌≢◌, IsTrue}
 use Rattle.std.proofs.lemmas.List.{append-nil}
 use Rattle.std.proofs.lemmas.List.Elements.{All-nil, All-cons, All-head, All-tail, All-push, All-weaker, All-append, All-contains, Contains-append_left, Contains-push, Contains-push_cases, Contains-get_or}
@@ -48,6 +48,15 @@ keeps_within (file ∷ files) kept all within (inr new) =
     (All-weaker (λ (f : FileRef). f.place + f.len ≤ end_of kept) (λ (f : FileRef). f.place + f.len ≤ end_of (kept ++ file ∷ [])) (λ f le. omega arith) kept within)
     (omega (arith, more, new.1)))
     new.2
+
+-- the bytes of a reference that lies within the file
+pub content_length : (bytes : List ℕ) (file : FileRef) → file.place + file.len ≤ length bytes → length (content bytes file) ≡ file.len
+content_length bytes file le = omega (arith, length-take file.len (drop file.place bytes), length-drop file.place bytes)
+
+pub each_within : (bytes : List ℕ) (files kept : List FileRef) → Keeps [] files kept → end_of kept ≤ length bytes → All (λ file. file.place + file.len ≤ length bytes) kept
+each_within bytes files kept keeps le =
+    All-weaker (λ (f : FileRef). f.place + f.len ≤ end_of kept) (λ (f : FileRef). f.place + f.len ≤ length bytes) (λ f h. omega arith) kept
+    (keeps_within files [] kept (All-nil (λ (f : FileRef). f.place + f.len ≤ 0)) keeps)
 
 -- one after the other
 pub keeps_then : (files more kept mid all : List FileRef) → Keeps kept files mid → Keeps mid more all → Keeps kept (files ++ more) all

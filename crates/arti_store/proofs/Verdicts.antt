@@ -13,11 +13,11 @@ use Rattle.arti_rows.specs.declared.refusal.Refusal.TheVariants.{Full}
 use Rattle.arti_rows.specs.declared.refusal.Which.TheVariants.{Items}
 use Rattle.arti_model.specs.Store.{Item, has_file, has_item}
 use Rattle.arti_model.specs.Step.{missing_folders}
-use Rattle.arti_model.specs.Apply.{Holding, is_local, refused_if, refused_below, file_above, has_folder, added_with, passes_limit, put_refusal, edit_refusal, first_refusal, edits_refusal, refusal, edited, edited_by, apply, nothing_kept}
+use Rattle.arti_model.specs.Apply.{Holding, is_local, refused_if, refused_below, file_above, has_folder, added_with, passes_limit, put_refusal, edit_refusal, first_refusal, edits_refusal, refusal, edited, apply, nothing_kept}
 use Rattle.arti_store.specs.Items.{file_in, items_in}
 use Rattle.arti_store.specs.Edited.{has_row, has_file_row, has_folder_row, missing_above, count_with, has_room, may_put, accepts_edit, accepts_edits, accepts_change, accepts_changes, rows_edited, rows_edited_by, rows_after}
 use Rattle.arti_store.specs.Store.{Accepted}
-use Rattle.arti_store.proofs.Views.{has_seen, file_seen, missing_seen, length_seen, edit_seen, edits_seen}
+use Rattle.arti_store.proofs.Views.{any_agree, has_seen, file_seen, missing_seen, length_seen, edit_seen, items_applied}
 
 none_if : (b : Bool) (r : Refusal) (next : Option Refusal) → is_none (refused_if b r next) ≡ (not b && is_none next)
 none_if true r next = refl
@@ -33,15 +33,11 @@ none_first (Some r) b = refl
 
 none_found : {X : Type 0} (p : X → Bool) (xs : List X) → is_none (find p xs) ≡ not (list_any p xs)
 none_found p [] = refl
-none_found p (x ∷ xs) = by (p x)
+none_found p (x ∷ xs) = by (p x) (none_found p xs)
   where
-    by : (b : Bool) → is_none (cond b (Some x) (find p xs)) ≡ not (cond b true (list_any p xs))
-    by true = refl
-    by false = none_found p xs
-
-any_agree : {X : Type 0} (p q : X → Bool) → ((x : X) → p x ≡ q x) → (xs : List X) → list_any p xs ≡ list_any q xs
-any_agree p q same [] = refl
-any_agree p q same (x ∷ xs) = ap (λ b. cond b true (list_any p xs)) (same x) ∙ ap (λ b. cond (q x) true b) (any_agree p q same xs)
+    by : (b : Bool) → is_none (find p xs) ≡ not (list_any p xs) → is_none (cond b (Some x) (find p xs)) ≡ not (b || list_any p xs)
+    by true rest = refl
+    by false rest = rest
 
 not_passes : (a b : Bool) → not (not a && not b) ≡ (a || b)
 not_passes true b = refl
@@ -127,12 +123,6 @@ module _ (limits : Limits) (bytes : List ℕ) where
   change_judged change h rows is =
       ap (λ items. is_none (edits_refusal limits (file_in bytes) change.moment change.user change.edits items)) is ∙ edits_judged change.moment change.user change.edits rows
 
-  pub items_applied : (change : Change) (h : Holding) (rows : List ItemRow) → h.repository.items ≡ items_in bytes rows
-      → (apply (file_in bytes) change h).repository.items ≡ items_in bytes (rows_edited_by change.moment change.user change.edits rows)
-  unfolding apply
-  items_applied change h rows is =
-      ap (λ items. edited_by (file_in bytes) change.moment change.user change.edits items) is ∙ edits_seen bytes change.moment change.user change.edits rows
-
   none_is : (o : Option Refusal) → is_none o ≡ true → o ≡ None
   none_is None e = refl
   none_is (Some r) e = cc
@@ -142,15 +132,15 @@ module _ (limits : Limits) (bytes : List ℕ) where
   both_true false b e = cc
 
   pub accepted_seen : (changes : List Change) (h : Holding) (rows : List ItemRow) → h.repository.items ≡ items_in bytes rows → accepts_changes limits changes rows ≡ true → Accepted limits (file_in bytes) changes h
-  accepted_seen [] h rows is yes = tt
-  accepted_seen (change ∷ changes) h rows is yes =
-      let both = both_true (accepts_change limits change rows) _ yes in (
+  accepted_seen [] h rows is accepted = tt
+  accepted_seen (change ∷ changes) h rows is accepted =
+      let both = both_true (accepts_change limits change rows) _ accepted in (
         none_is (refusal limits (file_in bytes) change h) (change_judged change h rows is ∙ both.0),
-        accepted_seen changes (apply (file_in bytes) change h) (rows_edited_by change.moment change.user change.edits rows) (items_applied change h rows is) both.1,
+        accepted_seen changes (apply (file_in bytes) change h) (rows_edited_by change.moment change.user change.edits rows) (items_applied bytes change h rows is) both.1,
       )
 
   pub accepts_seen : (changes : List Change) (h : Holding) (rows : List ItemRow) → h.repository.items ≡ items_in bytes rows → Accepted limits (file_in bytes) changes h → accepts_changes limits changes rows ≡ true
-  accepts_seen [] h rows is yes = refl
-  accepts_seen (change ∷ changes) h rows is yes =
-      ap (λ b. b && accepts_changes limits changes (rows_edited_by change.moment change.user change.edits rows)) (sym (change_judged change h rows is) ∙ ap is_none yes.0)
-      ∙ accepts_seen changes (apply (file_in bytes) change h) (rows_edited_by change.moment change.user change.edits rows) (items_applied change h rows is) yes.1
+  accepts_seen [] h rows is accepted = refl
+  accepts_seen (change ∷ changes) h rows is accepted =
+      ap (λ b. b && accepts_changes limits changes (rows_edited_by change.moment change.user change.edits rows)) (sym (change_judged change h rows is) ∙ ap is_none accepted.0)
+      ∙ accepts_seen changes (apply (file_in bytes) change h) (rows_edited_by change.moment change.user change.edits rows) (items_applied bytes change h rows is) accepted.1

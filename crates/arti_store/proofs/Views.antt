@@ -1,6 +1,6 @@
 -- What is done to rows is done to the items that they stand for, whatever bytes their contents have.
 use Rattle.std.proofs.Common.{◌≡◌, ℕ, ◌+◌, Bool, true, false, cond, List, [], ◌∷◌, ◌++◌, length, Option, Some, None, refl, sym, ap, ◌∙◌, arith}
-use Rattle.std.specs.Prelude.{ℤ, filter, map, not, ◌&&◌, is_some, option_map, unwrap_or}
+use Rattle.std.specs.Prelude.{ℤ, filter, map, not, ◌&&◌, ◌||◌, is_some, option_map, unwrap_or}
 use Rattle.std.specs.List.{find, list_any}
 use Rattle.std.specs.Ordering.{is_lt}
 use Rattle.std.proofs.lemmas.List.{map-append, length-map}
@@ -15,46 +15,46 @@ use Rattle.arti_rows.specs.declared.edits.Edit.TheVariants as edits
 use Rattle.arti_rows.specs.declared.edits.Change.{Change}
 use Rattle.arti_model.specs.Store.{Item, File, same_key, is_file, find_item, has_file, has_item, put_item, put_items}
 use Rattle.arti_model.specs.Step.{new_folder, missing_folders}
-use Rattle.arti_model.specs.Apply.{with_folder, deployed, with_deployed, counted, with_download, edited, edited_by}
+use Rattle.arti_model.specs.Apply.{with_folder, deployed, with_deployed, counted, with_download, edited, edited_by, apply, Holding}
 use Rattle.arti_store.specs.Items.{file_in, item_in, items_in, find_row, put_row, put_rows}
 use Rattle.arti_store.specs.Edited.{has_row, has_file_row, missing_above, folder_row, folders_for, file_row, counted_row, rows_with_folder, rows_with_file, rows_with_download, rows_edited, rows_edited_by}
 
 -- a test of items keeps those whose rows pass it
 filter_items : (f : ItemRow → Item) (p : Item → Bool) (rows : List ItemRow) → filter p (map f rows) ≡ map f (filter (λ row. p (f row)) rows)
 filter_items f p [] = refl
-filter_items f p (row ∷ rows) = by (p (f row))
+filter_items f p (row ∷ rows) = by (p (f row)) (filter_items f p rows)
   where
-    by : (b : Bool) → cond b (f row ∷ filter p (map f rows)) (filter p (map f rows)) ≡ map f (cond b (row ∷ filter (λ r. p (f r)) rows) (filter (λ r. p (f r)) rows))
-    by true = ap (λ l. f row ∷ l) (filter_items f p rows)
-    by false = filter_items f p rows
+    by : (b : Bool) → filter p (map f rows) ≡ map f (filter (λ r. p (f r)) rows) → cond b (f row ∷ filter p (map f rows)) (filter p (map f rows)) ≡ map f (cond b (row ∷ filter (λ r. p (f r)) rows) (filter (λ r. p (f r)) rows))
+    by true rest = ap (λ l. f row ∷ l) rest
+    by false rest = rest
 
 find_items : (f : ItemRow → Item) (p : Item → Bool) (rows : List ItemRow) → find p (map f rows) ≡ option_map f (find (λ row. p (f row)) rows)
 find_items f p [] = refl
-find_items f p (row ∷ rows) = by (p (f row))
+find_items f p (row ∷ rows) = by (p (f row)) (find_items f p rows)
   where
-    by : (b : Bool) → cond b (Some (f row)) (find p (map f rows)) ≡ option_map f (cond b (Some row) (find (λ r. p (f r)) rows))
-    by true = refl
-    by false = find_items f p rows
+    by : (b : Bool) → find p (map f rows) ≡ option_map f (find (λ r. p (f r)) rows) → cond b (Some (f row)) (find p (map f rows)) ≡ option_map f (cond b (Some row) (find (λ r. p (f r)) rows))
+    by true rest = refl
+    by false rest = rest
 
 any_items : (f : ItemRow → Item) (p : Item → Bool) (rows : List ItemRow) → list_any p (map f rows) ≡ list_any (λ row. p (f row)) rows
 any_items f p [] = refl
-any_items f p (row ∷ rows) = ap (λ b. cond (p (f row)) true b) (any_items f p rows)
+any_items f p (row ∷ rows) = ap (λ b. p (f row) || b) (any_items f p rows)
 
 pub any_is_find : {X : Type 0} (p : X → Bool) (xs : List X) → list_any p xs ≡ is_some (find p xs)
 any_is_find p [] = refl
-any_is_find p (x ∷ xs) = by (p x)
+any_is_find p (x ∷ xs) = by (p x) (any_is_find p xs)
   where
-    by : (b : Bool) → cond b true (list_any p xs) ≡ is_some (cond b (Some x) (find p xs))
-    by true = refl
-    by false = any_is_find p xs
+    by : (b : Bool) → list_any p xs ≡ is_some (find p xs) → (b || list_any p xs) ≡ is_some (cond b (Some x) (find p xs))
+    by true rest = refl
+    by false rest = rest
 
 some_mapped : (f : FileRef → File) (o : Option FileRef) → is_some (option_map f o) ≡ is_some o
 some_mapped f None = refl
 some_mapped f (Some file) = refl
 
-any_agree : {X : Type 0} (p q : X → Bool) → ((x : X) → p x ≡ q x) → (xs : List X) → list_any p xs ≡ list_any q xs
+pub any_agree : {X : Type 0} (p q : X → Bool) → ((x : X) → p x ≡ q x) → (xs : List X) → list_any p xs ≡ list_any q xs
 any_agree p q same [] = refl
-any_agree p q same (x ∷ xs) = ap (λ b. cond b true (list_any p xs)) (same x) ∙ ap (λ b. cond (q x) true b) (any_agree p q same xs)
+any_agree p q same (x ∷ xs) = ap (λ b. b || list_any p xs) (same x) ∙ ap (λ b. q x || b) (any_agree p q same xs)
 
 module _ (bytes : List ℕ) where
   abbrev item : ItemRow → Item
@@ -107,7 +107,7 @@ module _ (bytes : List ℕ) where
         ap (λ ks. map (new_folder moment user) (ks ++ key ∷ [])) (missing_seen rows key) ∙ folders_seen moment user (missing_above rows key ++ key ∷ [])
         ∙ ap (items_in bytes) (map-append (folder_row moment user) (missing_above rows key) (key ∷ [])) in
         ap (λ b. cond b (items_in bytes rows) (put_items (map (new_folder moment user) (missing_folders (items_in bytes rows) key ++ key ∷ [])) (items_in bytes rows))) (has_seen rows key)
-        ∙ folder_by (has_row rows key) rows (folders_for rows moment user key ++ folder_row moment user key ∷ []) _ (ap (λ l. put_items l (items_in bytes rows)) news ∙ puts_seen _ rows)
+        ∙ folder_by (has_row rows key) rows (folders_for rows moment user key ++ folder_row moment user key ∷ []) _ (ap (λ l. put_items l (items_in bytes rows)) news ∙ puts_seen (folders_for rows moment user key ++ folder_row moment user key ∷ []) rows)
 
     deployed_by : (key : Key) (given : Given) (file : FileRef) (props : List Property) (old : Option ItemRow)
         → deployed moment user key given (file_in bytes file) props (option_map (item_in bytes) old) ≡ item_in bytes (file_row moment user key given file props old)
@@ -157,3 +157,28 @@ module _ (bytes : List ℕ) where
     pub edits_seen : (es : List Edit) (rows : List ItemRow) → edited_by (file_in bytes) moment user es (items_in bytes rows) ≡ items_in bytes (rows_edited_by moment user es rows)
     edits_seen [] rows = refl
     edits_seen (edit ∷ es) rows = ap (edited_by (file_in bytes) moment user es) (edit_seen edit rows) ∙ edits_seen es (rows_edited moment user edit rows)
+
+  pub items_applied : (change : Change) (h : Holding) (rows : List ItemRow) → h.repository.items ≡ items_in bytes rows
+      → (apply (file_in bytes) change h).repository.items ≡ items_in bytes (rows_edited_by change.moment change.user change.edits rows)
+  unfolding apply
+  items_applied change h rows is =
+      ap (λ items. edited_by (file_in bytes) change.moment change.user change.edits items) is ∙ edits_seen change.moment change.user change.edits rows
+
+-- an edit that isn't built changes no row
+pub other_edit : (moment : ℤ) (user : List ℕ) (edit : Edit) (rows : List ItemRow) → ((key : Key) → edit ≡ edits.Folder key → ⊥) → ((key : Key) (given : Given) (file : FileRef) (props : List Property) → edit ≡ edits.File key given file props → ⊥)
+    → ((key : Key) → edit ≡ edits.Downloaded key → ⊥) → rows ≡ rows_edited moment user edit rows
+other_edit moment user (edits.Folder key) rows f g h = absurd (f key refl)
+other_edit moment user (edits.File key given file props) rows f g h = absurd (g key given file props refl)
+other_edit moment user (edits.Downloaded key) rows f g h = absurd (h key refl)
+other_edit moment user (edits.Define def) rows f g h = refl
+other_edit moment user (edits.Remove key) rows f g h = refl
+other_edit moment user (edits.Move from to) rows f g h = refl
+other_edit moment user (edits.Copy from to) rows f g h = refl
+other_edit moment user (edits.SetProps key deep props) rows f g h = refl
+other_edit moment user (edits.DropProps key deep keys) rows f g h = refl
+other_edit moment user (edits.Build info) rows f g h = refl
+other_edit moment user (edits.Unbuild name number) rows f g h = refl
+other_edit moment user (edits.Promote name number row) rows f g h = refl
+other_edit moment user (edits.Kept file) rows f g h = refl
+other_edit moment user (edits.Item row) rows f g h = refl
+other_edit moment user (edits.Held row) rows f g h = refl

@@ -1,5 +1,5 @@
 -- What edits do to rows, and which are accepted: the model's words at rows, whatever bytes their contents have.
-use Rattle.std.specs.Prelude.{◌≡◌, ℕ, ℤ, ◌+◌, min, Bool, true, false, not, ◌&&◌, ◌||◌, ◌==◌, nat_le, if◌then◌else◌, List, [], ◌∷◌, ◌++◌, length, map, filter, Option, Some, None, option_map, unwrap_or, is_some}
+use Rattle.std.specs.Prelude.{◌≡◌, ℕ, ℤ, pos, ◌+◌, min, Bool, true, false, not, ◌&&◌, ◌||◌, ◌==◌, nat_le, if◌then◌else◌, List, [], ◌∷◌, ◌++◌, length, map, filter, Option, Some, None, option_map, unwrap_or, is_some}
 use Rattle.std.specs.List.{list_any}
 use Rattle.arti_rows.specs.Key.{Key, folders_above}
 use Rattle.arti_rows.specs.declared.limits.Limits.{Limits}
@@ -41,6 +41,10 @@ folder_row moment user key = record {
   props = [];
   stat = None;
 }
+
+-- stands for a row past the end
+abbrev pub no_row : ItemRow
+no_row = folder_row (pos 0) [] (record { repo = []; path = []; name = [] })
 
 -- the folders above a key that aren't there, made
 abbrev pub folders_for : List ItemRow → ℤ → List ℕ → Key → List ItemRow

@@ -1,7 +1,7 @@
 // The parts of a commit.
 ghost use Rattle.std.specs.Prelude.{◌≡◌, ◌≢◌, ◌↔◌, ◌+◌, ◌^◌, ◌<◌, ◌≤◌, ◌⊎◌, max, ℕ, List, length, Err, IfOk, IfSome, OnOk, OnErr, IsErrOf, IsTrue, All, Contains};
 ghost use Rattle.arti_rows.specs.declared.rows.FileRef.{FileRef};
-ghost use Rattle.arti_rows.specs.declared.rows.Which.{Which};
+ghost use Rattle.arti_rows.specs.declared.refusal.Which.{Which};
 ghost use Rattle.arti_blobs.specs.Contents.{Contents, end_of};
 ghost use Rattle.arti_codec.specs.ChangeBytes.{HasBytes, ChangeBytes};
 ghost use Rattle.arti_store.specs.Items.{HasFileIn};

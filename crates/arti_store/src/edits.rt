@@ -157,7 +157,7 @@ fn file_row(
     file: FileRef,
     props: Seq<Property>,
 ) -> Result<ItemRow, AllocError>
-    ensures { IfOk result (λ r. r ≡ file_row moment user.now key given file props (option_copied old)) }
+    ensures { IfOk result (λ r. r ≡ file_row moment user.now key given file props (option_copied old.entry)) }
 {
     let (created, created_by) = match old {
         None => (moment, user.clone()?),

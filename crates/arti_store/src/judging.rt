@@ -1,5 +1,5 @@
 // Which edits are accepted.
-ghost use Rattle.std.specs.Prelude.{◌≡◌, ◌+◌, ℕ, List, not, filter, length, IfOk, IsTrue};
+ghost use Rattle.std.specs.Prelude.{◌≡◌, ◌+◌, ◌≤◌, ℕ, List, not, filter, length, IfOk, IsTrue};
 ghost use Rattle.std.specs.List.{list_any};
 ghost use Rattle.arti_rows.specs.Key.{folders_above};
 ghost use Rattle.arti_model.specs.Apply.{is_local};

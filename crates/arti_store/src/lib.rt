@@ -6,14 +6,12 @@ mod commit;
 mod edits;
 mod fault;
 mod judging;
-mod laws;
 mod opening;
 mod replaying;
 mod rows;
 mod store;
 
 pub use fault::{CommitFault, ContentFault, OpenFault};
-pub use laws::{contents_are_whole, images_stand, stores_stay};
 pub use store::Store;
 
 #[cfg(test)]

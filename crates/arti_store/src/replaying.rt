@@ -74,12 +74,28 @@ fn redo_one(
     ensures rows { IfOk result (λ b. IsTrue b → rows.new ≡ rows_edited moment user.now edit rows.old) }
     ensures files { IfOk result (λ b. IsTrue b → files.new.items ≡ files.old.items ++ edit_references edit) }
 {
-    if !accepts(alloc, limits, &edit, rows)? {
-        return Ok(false);
+    match judge(alloc, limits, rows, files, &edit) {
+        Ok(true) => match do_one(alloc, rows, moment, user, edit) {
+            Ok(()) => Ok(true),
+            Err(fault) => Err(fault),
+        },
+        other => other,
     }
-    note(files, &edit)?;
-    do_one(alloc, rows, moment, user, edit)?;
-    Ok(true)
+}
+
+// Whether an edit is accepted. The contents that it names are put behind others.
+fn judge(
+    alloc: Global,
+    limits: &Limits,
+    rows: &Rows,
+    files: &mut Vec<FileRef>,
+    edit: &Edit,
+) -> Result<bool, AllocError>
+    ensures accepted { IfOk result (λ b. b ≡ accepts_edit limits.now edit.now rows.now) }
+    ensures files { OnOk result (files.new.items ≡ files.old.items ++ edit_references edit.now) }
+{
+    note(files, edit)?;
+    accepts(alloc, limits, edit, rows)
 }
 
 // Puts the contents that an edit names behind others.

@@ -6,7 +6,7 @@ ghost use Rattle.std.specs.Vec.{vec_len, vec_capacity};
 ghost use Rattle.arti_rows.specs.declared.rows.ItemRow.{ItemRow};
 ghost use Rattle.arti_rows.specs.declared.rows.FileRef.{FileRef};
 ghost use Rattle.arti_store.specs.Items.{InOrder, HasFileIn, find_row, put_row, put_rows};
-ghost use Rattle.arti_store.specs.Edited.{has_row, has_file_row, counted_row, rows_with_download};
+ghost use Rattle.arti_store.specs.Edited.{has_row, has_file_row, no_row, counted_row, rows_with_download};
 ghost use Rattle.arti_store.specs.Places.{IsPlace, IsGap};
 
 use arti_rows::{FileRef, ItemKey, ItemRow, Moment, Stat, Text};
@@ -67,10 +67,7 @@ impl Rows {
     pub(crate) fn has_file(&self, key: &ItemKey) -> bool
         ensures { result ≡ has_file_row self.now key.now }
     {
-        match self.find(key) {
-            None => false,
-            Some(row) => row.file.is_some(),
-        }
+        has_file(&self.rows, key)
     }
 
     /// Puts rows at their places, one after the other. An `Err` changes nothing.
@@ -116,6 +113,17 @@ fn find<'a>(rows: &'a [ItemRow], key: &ItemKey) -> Option<&'a ItemRow>
     match place(rows, key) {
         Ok(at) => Some(&rows[at]),
         Err(_) => None,
+    }
+}
+
+// Whether a file stands at the key.
+fn has_file(rows: &[ItemRow], key: &ItemKey) -> bool
+    requires order { InOrder rows.now }
+    ensures { result ≡ has_file_row rows.now key.now }
+{
+    match find(rows, key) {
+        None => false,
+        Some(row) => row.file.is_some(),
     }
 }
 
@@ -176,15 +184,16 @@ fn count(rows: &mut Vec<ItemRow>, moment: Moment, user: Text, key: &ItemKey)
     ensures counted { rows.new.items ≡ rows_with_download rows.old.items moment user key.now }
     ensures order { InOrder rows.new.items }
 {
-    if let Ok(at) = place(rows, key) {
-        count_at(rows, at, moment, user);
+    match place(rows, key) {
+        Ok(at) => count_at(rows, at, moment, user),
+        Err(_) => {}
     }
 }
 
 // Counts a download of a row.
 fn count_at(rows: &mut Vec<ItemRow>, at: usize, moment: Moment, user: Text)
     requires within { at < vec_len rows.old }
-    ensures { (d : ItemRow) → rows.new.items ≡ slice_set rows.old.items at (counted_row moment user (slice_index_or rows.old.items at d)) }
+    ensures { rows.new.items ≡ slice_set rows.old.items at (counted_row moment user (slice_index_or rows.old.items at no_row)) }
 {
     count_one(&mut rows[at], moment, user);
 }

@@ -218,14 +218,16 @@ impl Store {
     }
 
     /// Begins a staging with no bytes. One that isn't ended is given up.
-    pub fn stage_begin(&mut self)
+    pub fn stage_begin<G: Ground>(&mut self, outside: &G)
+        requires { G.tells → HoldsStore (G.state outside.now) self.old }
         ensures rest { self.new ≡ record self.old { contents = record { kept = self.old.contents.kept; staging = self.new.contents.staging } } }
         ensures begun { IsSome self.new.contents.staging }
         ensures length { staged_length self.new.contents.staging ≡ 0 }
         ensures staged { Stages self.new.contents [] }
-        ensures holds { (s : State) → HoldsStore s self.old → HoldsStore s self.new }
-        ensures written { (s : State) → HoldsStaged s self.new.contents [] }
+        ensures holds { G.tells → HoldsStore (G.state outside.now) self.new }
+        ensures written { G.tells → HoldsStaged (G.state outside.now) self.new.contents [] }
     {
+        let _ = outside;
         self.blobs.stage_begin();
     }
 

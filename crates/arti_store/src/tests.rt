@@ -76,7 +76,7 @@ fn stage<G: Ground>(
     ensures keep { IfOk result (λ s. MayKeep store.new.contents (Some s)) }
     ensures kept { IfOk result (λ s. Contains (kept_and store.new.contents.kept (Some s)) s.file) }
 {
-    store.stage_begin();
+    store.stage_begin(outside);
     store
         .stage_piece(outside, content, 65_536)
         .map_err(|fault| Stop::Stage(fault))?;

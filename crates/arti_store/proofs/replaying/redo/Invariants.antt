@@ -7,6 +7,6 @@ use Rattle.arti_store.proofs.replaying.redo.Given as goal
 abbrev pub invariant-edits : goal.invariant-edits
 invariant-edits l =
     (goal.iterator-edits).can_next l.edit-iterator × (goal.iterator-edits).is_finite l.edit-iterator
-    × (accepts_edits l.limits l.moment l.user (into_iter_items l.edit-iterator) l.rows ≡ accepts_change l.limits l.fn.change l.fn.rows)
-    × (rows_edited_by l.moment l.user (into_iter_items l.edit-iterator) l.rows ≡ rows_edited_by l.fn.change.moment l.fn.change.user l.fn.change.edits l.fn.rows)
+    × (accepts_edits l.limits l.fn.change.moment l.fn.change.user (into_iter_items l.edit-iterator) l.rows ≡ accepts_change l.limits l.fn.change l.fn.rows)
+    × (rows_edited_by l.fn.change.moment l.fn.change.user (into_iter_items l.edit-iterator) l.rows ≡ rows_edited_by l.fn.change.moment l.fn.change.user l.fn.change.edits l.fn.rows)
     × (l.files.items ++ references_of (into_iter_items l.edit-iterator) ≡ l.fn.files.items ++ references_of l.fn.change.edits)
