@@ -85,6 +85,14 @@ names_added contents files (Some s) None named adds = by s.fresh refl named
         (Contains-push_cases contents.kept s.file file (all k d lt))
 names_added contents files content (Some s) named adds = subst (λ (o : Option Staged). All (Contains (kept_and contents.kept o)) files) adds.is named
 
+pub may_none : (contents : Contents) (content : Option Staged) → MayKeep contents content → contents.staging ≡ None
+may_none contents None may = may
+may_none contents (Some s) may = may.0
+
+pub none_by : (o : Option ℕ) → ((n : ℕ) → o ≡ Some n → ⊥) → o ≡ None
+none_by None f = refl
+none_by (Some n) f = absurd (f n refl)
+
 pub room_added : (limit end : ℕ) (added : Option Staged) → (IsSomeAnd added (λ s. limit < end + s.file.len) → ⊥) → IfSome added (λ s. end + s.file.len ≤ limit)
 room_added limit end None not = tt
 room_added limit end (Some s) not = ⊎_elim (λ lt. absurd (not lt)) (λ le. le) (cases_lt limit (end + s.file.len))

@@ -1,7 +1,8 @@
 -- What changes make, over the bytes of the contents file.
-use Rattle.std.proofs.Common.{◌≡◌, inl, inr, ⊎_elim, ℕ, ◌+◌, ◌^◌, ◌<◌, ◌≤◌, zero, suc, Bool, true, false, cond, List, [], ◌∷◌, ◌++◌, length, get_or, take, drop, length-take, Option, Some, None, refl, sym, ◌∙◌, ap, subst, arith}
+use Rattle.std.proofs.Common.{◌≡◌, inl, inr, ⊎_elim, ℕ, ◌+◌, ◌^◌, ◌<◌, ◌≤◌, zero, suc, Bool, true, false, cond, List, [], ◌∷◌, ◌++◌, length, get_or, take, drop, length-take, Bor, Option, Some, None, refl, sym, ◌∙◌, ap, subst, arith}
 use Rattle.std.specs.Prelude.{ℤ, All, Contains, map, filter, nat_eq, ◌&&◌, ◌≢◌, IfSome, option_map}
 use Rattle.std.specs.List.{list_any}
+use Rattle.std.specs.Option.{option_copied}
 use Rattle.std.specs.Ordering.{is_lt}
 use Rattle.std.specs.Cmp.Lexicographic.{pointwise, nat_list_eq_equiv}
 use Rattle.std.proofs.lemmas.Bool.{eqb-true}
@@ -328,3 +329,17 @@ makes_stays limits changes bytes others kept h front makes =
     let within : end_of kept ≤ length others = omega (arith, ap length front, length-take (end_of kept) others, length-take (end_of kept) bytes, makes.within) in
     subst (λ (x : Holding). Makes limits changes others kept x) (seen_stays bytes others (references changes) kept makes.refer front rows has ∙ sym made)
     (makes_seen limits changes others kept its makes.refer (distinct_stays bytes others (references changes) kept makes.refer front makes.distinct) within makes.short)
+
+-- what is found has its content among the kept ones
+pub found_has : (kept : List FileRef) (rows : List ItemRow) (key : Key) → All (HasFileIn kept) rows → IfSome (find_row rows key) (HasFileIn kept)
+found_has kept [] key all = tt
+found_has kept (row ∷ rows) key all =
+    by (same_key row.key key) (found_has kept rows key (All-tail (HasFileIn kept) row rows all))
+  where
+    by : (b : Bool) → IfSome (find_row rows key) (HasFileIn kept) → IfSome (cond b (Some row) (find_row rows key)) (HasFileIn kept)
+    by true rest = All-head (HasFileIn kept) row rows all
+    by false rest = rest
+
+pub copied_has : (P : ItemRow → Type 0) (r : Option (Bor ItemRow)) → IfSome (option_copied r) P → IfSome r (λ b. P b.now)
+copied_has P None h = tt
+copied_has P (Some b) h = h

@@ -8,3 +8,4 @@ pub mod Images
 mod Commits
 mod Openings
 mod Redoing
+mod Lengths

@@ -22,6 +22,7 @@ use Rattle.arti_store.specs.Replays.{Replays, ReplaysNot}
 use Rattle.arti_store.specs.Store.{View, holding_of, AreDistinct, Makes, Stands, HoldsOpen, Reopening}
 use Rattle.arti_store.proofs.References.{content_length, each_within}
 use Rattle.arti_store.proofs.Holdings.{makes_seen, makes_accepts, seen}
+use Rattle.arti_store.proofs.Redoing.{zip_once}
 
 -- ---- contents that differ
 
@@ -45,14 +46,6 @@ differ_if bytes kept distinct = λ i j d lt inside same.
     distinct i j d lt inside (λ k. record { content = c k; digests = g k })
 
 -- ---- the changes of bodies
-
-pub zip_once : ((bytes : List ℕ) (c d : Change) → ChangeBytes bytes c → ChangeBytes bytes d → c ≡ d) → (bodies : List (List ℕ)) (cs ds : List Change) → AllZip ChangeBytes bodies cs → AllZip ChangeBytes bodies ds → cs ≡ ds
-zip_once one [] [] [] x y = refl
-zip_once one [] [] (d ∷ ds) x y = absurd y
-zip_once one [] (c ∷ cs) ds x y = absurd x
-zip_once one (b ∷ bodies) [] ds x y = absurd x
-zip_once one (b ∷ bodies) (c ∷ cs) [] x y = absurd y
-zip_once one (b ∷ bodies) (c ∷ cs) (d ∷ ds) x y = ap (λ z. z ∷ cs) (one b c d x.0 y.0) ∙ ap (λ zs. d ∷ zs) (zip_once one bodies cs ds x.1 y.1)
 
 module _ (journals : (bodies others : List (List ℕ)) (bytes : List ℕ) → IsJournal bodies bytes → IsJournal others bytes → bodies ≡ others) (limits : Limits) (files : Bytes) (bodies : List (List ℕ)) (is : IsJournal bodies (files 1)) where
   its_bodies : (h : Holding) (used : ℕ) (stands : Stands limits files h used) → stands.bodies ≡ bodies

@@ -1,9 +1,10 @@
 -- Changes that are done again, one after the other.
-use Rattle.std.proofs.Common.{◌≡◌, ℕ, ◌+◌, ◌<◌, Bool, true, false, cond, List, [], ◌∷◌, ◌++◌, length, get_or, take, drop, suc, refl, sym, ◌∙◌, ap, subst, arith, drop-cons, take-append-drop, add-one}
+use Rattle.std.proofs.Common.{◌≡◌, ℕ, ◌+◌, ◌<◌, Bool, true, false, cond, List, [], ◌∷◌, ◌++◌, length, get_or, take, drop, suc, refl, sym, ◌∙◌, ap, subst, arith, Vec, Global}
 use Rattle.std.specs.Prelude.{ℤ, ◌&&◌, map, Contains}
 use Rattle.std.specs.List.{AllZip}
-use Rattle.std.proofs.Math.Seq.{take-suc}
-use Rattle.std.proofs.lemmas.List.{append-nil, get_or-map, length-map}
+use Rattle.std.proofs.Math.Seq.{split_at}
+use Rattle.std.proofs.lemmas.List.{map-append, take_more}
+use Rattle.arti_journal.specs.Journal.{bodies_of}
 use Rattle.arti_rows.specs.declared.limits.Limits.{Limits}
 use Rattle.arti_rows.specs.declared.rows.FileRef.{FileRef}
 use Rattle.arti_rows.specs.declared.rows.ItemRow.{ItemRow}
@@ -91,3 +92,23 @@ redone_refused limits bodies rest rows files body change done zips only refused 
     ∙ ap (accepts_change limits change) (sym done.rows_are) ∙ refused in
     ap (λ (l : List Change). accepts_changes limits l []) p.whole ∙ accepts-append limits p.before (p.one ∷ p.behind) []
     ∙ and_false (accepts_changes limits p.before []) _ (false_and (accepts_change limits p.one (rows_after p.before [])) _ at)
+
+-- bodies are the bytes of one list of changes
+pub zip_once : ((bytes : List ℕ) (c d : Change) → ChangeBytes bytes c → ChangeBytes bytes d → c ≡ d) → (bodies : List (List ℕ)) (cs ds : List Change) → AllZip ChangeBytes bodies cs → AllZip ChangeBytes bodies ds → cs ≡ ds
+zip_once one [] [] [] x y = refl
+zip_once one [] [] (d ∷ ds) x y = absurd y
+zip_once one [] (c ∷ cs) ds x y = absurd x
+zip_once one (b ∷ bodies) [] ds x y = absurd x
+zip_once one (b ∷ bodies) (c ∷ cs) [] x y = absurd y
+zip_once one (b ∷ bodies) (c ∷ cs) (d ∷ ds) x y = ap (λ z. z ∷ cs) (one b c d x.0 y.0) ∙ ap (λ zs. d ∷ zs) (zip_once one bodies cs ds x.1 y.1)
+
+-- ---- the bodies by the index of a loop
+
+module _ (bodies : List (Vec ℕ Global)) (i : ℕ) (body : Vec ℕ Global) (lt : i < length bodies) (is : body ≡ get_or bodies i body) where
+  pub before_it : bodies_of bodies ≡ bodies_of (take i bodies) ++ body.items ∷ bodies_of (drop (suc i) bodies)
+  before_it =
+      ap bodies_of (split_at bodies i body lt ∙ ap (λ (b : Vec ℕ Global). take i bodies ++ b ∷ drop (suc i) bodies) (sym is)) ∙ map-append (λ (b : Vec ℕ Global). b.items) (take i bodies) (body ∷ drop (suc i) bodies)
+
+  pub with_it : bodies_of (take (i + 1) bodies) ≡ bodies_of (take i bodies) ++ body.items ∷ []
+  with_it =
+      ap bodies_of (take_more bodies i body lt ∙ ap (λ (b : Vec ℕ Global). take i bodies ++ b ∷ []) (sym is)) ∙ map-append (λ (b : Vec ℕ Global). b.items) (take i bodies) (body ∷ [])

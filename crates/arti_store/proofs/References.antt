@@ -1,14 +1,15 @@
 -- References of kept contents.
 use Rattle.std.proofs.Common.{◌≡◌, inl, inr, ⊎_elim, ℕ, ◌+◌, ◌<◌, ◌≤◌, zero, suc, Bool, true, false, cond, List, [], ◌∷◌, ◌++◌, length, get_or, take, drop, refl, sym, ◌∙◌, ap, subst, arith, append_assoc, length-take, length-drop}
-use Rattle.std.specs.Prelude.{All, AllPairs, Contains, ◌≢◌, IsTrue}
-use Rattle.std.proofs.lemmas.List.{append-nil}
-use Rattle.std.proofs.lemmas.List.Elements.{All-nil, All-cons, All-head, All-tail, All-push, All-weaker, All-append, All-contains, Contains-append_left, Contains-push, Contains-push_cases, Contains-get_or}
+use Rattle.std.specs.Prelude.{All, AllPairs, Contains, ◌≢◌, ◌↔◌, IsTrue}
+use Rattle.std.proofs.lemmas.List.{append-nil, drop_more}
+use Rattle.std.proofs.lemmas.List.Elements.{All-nil, All-cons, All-head, All-tail, All-push, All-weaker, All-append, All-contains, Contains-append_left, Contains-push, Contains-push_cases, Contains-get_or, Contains-append_right, Contains-append_cases}
 use Rattle.std.proofs.lemmas.List.Kept.{AllPairs-cons}
 use Rattle.std.proofs.lemmas.List.Sums.{sum_by_push}
 use Rattle.arti_rows.specs.declared.rows.FileRef.{FileRef}
 use Rattle.arti_rows.specs.declared.edits.Edit.{Edit}
 use Rattle.arti_rows.specs.declared.edits.Change.{Change}
-use Rattle.arti_blobs.specs.Contents.{content, end_of, Keeps, HasPair}
+use Rattle.arti_blobs.specs.declared.staging.Staged.{Staged}
+use Rattle.arti_blobs.specs.Contents.{content, end_of, Keeps, HasPair, kept_with}
 use Rattle.arti_store.specs.Items.{file_in}
 use Rattle.arti_store.specs.Changes.{edit_references, references_of, references}
 use Rattle.arti_store.specs.Store.{AreDistinct, IsFresh}
@@ -111,3 +112,31 @@ module _ (bytes : List ℕ) (kept : List FileRef) (file : FileRef) (fresh : IsFr
           AllPairs-cons (λ a b. file_in bytes a ≢ file_in bytes b) x (xs ++ file ∷ [])
           (All-push (λ b. file_in bytes x ≢ file_in bytes b) xs file (λ k d lt. distinct zero (suc k) d (omega arith) (omega arith)) (All-head (λ old. file_in bytes old ≢ file_in bytes file) x xs all))
           (pairs_push xs (λ i j d lt within. distinct (suc i) (suc j) d (omega arith) (omega arith)) (All-tail (λ old. file_in bytes old ≢ file_in bytes file) x xs all))
+
+-- a staged content is kept already, or it is with it
+pub with_contains : (kept : List FileRef) (staged : Staged) → (staged.fresh ≡ false → Contains kept staged.file) → Contains (kept_with kept staged) staged.file
+with_contains kept staged old = by staged.fresh refl
+  where
+    by : (fresh : Bool) → staged.fresh ≡ fresh → Contains (cond fresh (kept ++ staged.file ∷ []) kept) staged.file
+    by true is = Contains-push kept staged.file
+    by false is = old is
+
+-- a look for one of the references, an edit further
+pub look_on : (es : List Edit) (i : ℕ) (edit : Edit) (wanted : FileRef) → i < length es → get_or es i edit ≡ edit → (Contains (edit_references edit) wanted → ⊥)
+    → (Contains (references_of (drop i es)) wanted ↔ Contains (references_of es) wanted) → (Contains (references_of (drop (i + 1) es)) wanted ↔ Contains (references_of es) wanted)
+look_on es i edit wanted lt is none so_far =
+    let step : drop i es ≡ edit ∷ drop (i + 1) es = drop_more es i edit lt ∙ ap (λ e. e ∷ drop (i + 1) es) is in
+    let here = edit_references edit in
+    let rest = references_of (drop (i + 1) es) in
+    (
+      λ x. so_far.0 (subst (λ (l : List Edit). Contains (references_of l) wanted) (sym step) (Contains-append_right here rest wanted x)),
+      λ x. ⊎_elim (λ a. absurd (none a)) (λ b. b) (Contains-append_cases here rest wanted (subst (λ (l : List Edit). Contains (references_of l) wanted) step (so_far.1 x))),
+    )
+
+-- references are kept in one way
+pub keeps_once : (files kept a b : List FileRef) → Keeps kept files a → Keeps kept files b → a ≡ b
+keeps_once [] kept a b x y = x ∙ sym y
+keeps_once (file ∷ files) kept a b (inl x) (inl y) = keeps_once files kept a b x.1 y.1
+keeps_once (file ∷ files) kept a b (inl x) (inr y) = absurd (y.0 x.0)
+keeps_once (file ∷ files) kept a b (inr x) (inl y) = absurd (x.0 y.0)
+keeps_once (file ∷ files) kept a b (inr x) (inr y) = keeps_once files (kept ++ file ∷ []) a b x.2 y.2

@@ -95,12 +95,25 @@ pub(crate) fn take_up(
     ensures files { All (HasFileIn blobs.new.kept) rows.new }
     ensures short { end_of blobs.new.kept ≤ max (end_of blobs.old.kept) limit }
 {
-    if let Some(staged) = added {
-        match blobs.keep(&staged, limit) {
-            Ok(()) => {}
-            Err(KeepFault::Memory) => return Err(AllocError),
-            Err(KeepFault::Full) => unreachable!(),
-        }
-    }
+    keep_added(blobs, added, limit)?;
     do_all(alloc, rows, change)
+}
+
+// Keeps the added content, for which there is room.
+fn keep_added(blobs: &mut Blobs, added: Option<Staged>, limit: u64) -> Result<(), AllocError>
+    requires may { MayKeep blobs.old added }
+    requires room { IfSome added (λ s. end_of blobs.old.kept + s.file.len ≤ limit) }
+    ensures kept { OnOk result (blobs.new.kept ≡ kept_and blobs.old.kept added) }
+    ensures unchanged { OnErr result (blobs.new ≡ blobs.old) }
+    ensures staging { blobs.new.staging ≡ blobs.old.staging }
+    ensures short { end_of blobs.new.kept ≤ max (end_of blobs.old.kept) limit }
+{
+    match added {
+        None => Ok(()),
+        Some(staged) => match blobs.keep(&staged, limit) {
+            Ok(()) => Ok(()),
+            Err(KeepFault::Memory) => Err(AllocError),
+            Err(KeepFault::Full) => unreachable!(),
+        },
+    }
 }

@@ -8,7 +8,7 @@ ghost use Rattle.arti_store.specs.Replays.{Replays, ReplaysNot};
 use crate::edits::do_one;
 use crate::judging::accepts;
 use crate::rows::Rows;
-use arti_codec::{DecodeFault, decode};
+use arti_codec::{DecodeFault, bytes_are_of_one_change, decode};
 use arti_rows::{Change, Edit, FileRef, Limits, Moment, Text};
 use std::alloc::{AllocError, Global};
 
@@ -22,6 +22,7 @@ pub(crate) fn replay(
     ensures done { IfOk result (λ r. IfSome r (λ x. Replays limits.now (bodies_of bodies.now) x.0 x.1.items)) }
     ensures none { IfOk result (λ r. r ≡ None → ReplaysNot limits.now (bodies_of bodies.now)) }
 {
+    bytes_are_of_one_change();
     let mut rows = Rows::new(alloc);
     let mut files = Vec::new(alloc);
     'bodies: for body in bodies {

@@ -21,8 +21,9 @@ use crate::replaying::replay;
 use crate::rows::Rows;
 use crate::{CommitFault, ContentFault, OpenFault};
 use arti_blobs::{Blobs, StageFault, Staged};
+use arti_codec::bytes_are_of_one_change;
 use arti_ground::Ground;
-use arti_journal::{AppendFault, Framed, Journal, JournalFault};
+use arti_journal::{AppendFault, Journal, JournalFault, one_list_of_bodies};
 use arti_rows::{Change, Edit, FileRef, ItemKey, ItemRow, Limits, Which};
 use std::alloc::{AllocError, Global};
 use std::marker::Model;
@@ -80,6 +81,8 @@ impl Store {
         ensures later { G.disk_faults outside.old ≤ G.disk_faults outside.new }
         ensures tell_faults { G.tell_faults outside.new ≡ G.tell_faults outside.old }
     {
+        one_list_of_bodies();
+        bytes_are_of_one_change();
         let (journal, bodies) = match Journal::open(alloc, outside, 1) {
             Err(JournalFault::NotAJournal) => return Err(OpenFault::NotAStore),
             Err(JournalFault::Device) => return Err(OpenFault::Device),
