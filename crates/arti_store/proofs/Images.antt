@@ -73,17 +73,17 @@ module _ (old new : State) (v : View) (staging : Option Staging) (has : All (Has
 
   pub standing : Passes old new (Behind old end) → Passes old new (Standing old v)
   standing passes = passes_map old new (Behind old end) (Standing old v) (λ c w here. record {
-      told = here.told;
-      image = record {
-        bodies = holds.bodies;
-        changes = holds.changes;
-        kept = v.contents.kept;
-        journal = inr (subst (λ (b : List ℕ). StandsFor holds.bodies b) (sym (here.front.others 1 (omega arith))) (holds.journal.images here.from here.was));
-        each = holds.each;
-        makes = makes_stays v.limits holds.changes (here.from 3) (c 3) v.contents.kept (holding_of (old.files 3) v) here.front.here (holds.images here.from here.was);
-        used_is = holds.journal.length_is;
-      };
-    }) passes
+    told = here.told;
+    image = record {
+      bodies = holds.bodies;
+      changes = holds.changes;
+      kept = v.contents.kept;
+      journal = inr (subst (λ (b : List ℕ). StandsFor holds.bodies b) (sym (here.front.others 1 (omega arith))) (holds.journal.images here.from here.was));
+      each = holds.each;
+      makes = makes_stays v.limits holds.changes (here.from 3) (c 3) v.contents.kept (holding_of (old.files 3) v) here.front.here (holds.images here.from here.was);
+      used_is = holds.journal.length_is;
+    };
+  }) passes
 
 -- calls that read leave it too
 pub reads_front : (end : ℕ) (old new : State) → LeavesDisk old new → KeepsFront end old.files new.files × Follows (KeepsFront end) old new

@@ -82,18 +82,18 @@ pub reopens : (start : State) (limits : Limits) (c w : Bytes) → Opening start 
 reopens start limits c w at = record {
   told = at.told;
   image = λ h used stands. record {
-      bodies = stands.bodies;
-      changes = stands.changes;
-      kept = stands.kept;
-      journal = ⊎_elim
-          (λ same. subst (λ (b : List ℕ). IsJournal stands.bodies b) (sym same) stands.journal)
-          (λ (short : (length (start.files 1) ≤ 17) × (length (c 1) ≤ 17)).
-          inl (short.1, ⊎_elim (λ none. none.1) (λ journal. short_stands stands.bodies (start.files 1) journal short.0) stands.journal))
-          at.here;
-      each = stands.each;
-      makes = subst (λ (b : List ℕ). Makes limits stands.changes b stands.kept h) (sym (at.others 3 (omega arith))) stands.makes;
-      used_is = stands.used_is;
-    };
+    bodies = stands.bodies;
+    changes = stands.changes;
+    kept = stands.kept;
+    journal = ⊎_elim
+        (λ same. subst (λ (b : List ℕ). IsJournal stands.bodies b) (sym same) stands.journal)
+        (λ (short : (length (start.files 1) ≤ 17) × (length (c 1) ≤ 17)).
+        inl (short.1, ⊎_elim (λ none. none.1) (λ journal. short_stands stands.bodies (start.files 1) journal short.0) stands.journal))
+        at.here;
+    each = stands.each;
+    makes = subst (λ (b : List ℕ). Makes limits stands.changes b stands.kept h) (sym (at.others 3 (omega arith))) stands.makes;
+    used_is = stands.used_is;
+  };
 }
 
 since_map : (a b : State) (P Q : Bytes → Bytes → Type 0) → ((c w : Bytes) → P c w → Q c w) → SinceSync a b P → SinceSync a b Q

@@ -127,8 +127,7 @@ pub look_on : (es : List Edit) (i : ℕ) (edit : Edit) (wanted : FileRef) → i 
 look_on es i edit wanted lt is none so_far =
     let step : drop i es ≡ edit ∷ drop (i + 1) es = drop_more es i edit lt ∙ ap (λ e. e ∷ drop (i + 1) es) is in
     let here = edit_references edit in
-    let rest = references_of (drop (i + 1) es) in
-    (
+    let rest = references_of (drop (i + 1) es) in (
       λ x. so_far.0 (subst (λ (l : List Edit). Contains (references_of l) wanted) (sym step) (Contains-append_right here rest wanted x)),
       λ x. ⊎_elim (λ a. absurd (none a)) (λ b. b) (Contains-append_cases here rest wanted (subst (λ (l : List Edit). Contains (references_of l) wanted) step (so_far.1 x))),
     )

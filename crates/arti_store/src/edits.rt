@@ -82,7 +82,15 @@ fn put_file(
     ensures unchanged { OnErr result (rows.new ≡ rows.old) }
 {
     let mut news = folders_for(alloc, rows, moment, user, &key)?;
-    let new = file_row(moment, user, rows.find(&key), key.clone()?, given, file, props)?;
+    let new = file_row(
+        moment,
+        user,
+        rows.find(&key),
+        key.clone()?,
+        given,
+        file,
+        props,
+    )?;
     news.push(new)?;
     rows.put_all(news)
 }

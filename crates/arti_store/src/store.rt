@@ -147,9 +147,9 @@ impl Store {
         ensures durable { G.tells → OnOk result (IsDurable (G.state outside.new)) }
         ensures moments { G.tells → self.old.closed ≡ None → (body : List ℕ) → ChangeBytes body change
             → Passes (G.state outside.old) (G.state outside.new) (Committing (G.state outside.old) self.old.limits
-                (holding_of ((G.state outside.old).files 3) self.old)
-                (apply (file_in ((G.state outside.old).files 3)) change (holding_of ((G.state outside.old).files 3) self.old))
-                self.old.used (self.old.used + 5 + length body)) }
+            (holding_of ((G.state outside.old).files 3) self.old)
+            (apply (file_in ((G.state outside.old).files 3)) change (holding_of ((G.state outside.old).files 3) self.old))
+            self.old.used (self.old.used + 5 + length body)) }
         ensures told { G.tells → (G.state outside.new).told ≡ (G.state outside.old).told }
         ensures device { IsErrOf result CommitFault.Device → Rose (G.disk_faults outside.old) (G.disk_faults outside.new) }
         ensures quiet { result ≢ Err CommitFault.Device → G.disk_faults outside.new ≡ G.disk_faults outside.old }

@@ -27,22 +27,28 @@ enum Stop {
 }
 
 // File x with `abc`, whose content is the first one.
-const X_ABC: &[u8] = b"\0\0\0\0\0\0\x04\xd2\0\x03ann\0\0\0\x01\x03\0\x0dgeneric-local\0\x01.\0\x01x\0\0\0\0\0\0\0\0\0\0\0\0\0\0\0\0\x03\x90\x01P\x98<\xd2O\xb0\xd6\x96?}(\xe1\x7fr\xa9\x99>6G\x06\x81j\xba>%qxP\xc2l\x9c\xd0\xd8\x9d\xbax\x16\xbf\x8f\x01\xcf\xeaAA@\xde]\xae\x22#\xb0\x03a\xa3\x96\x17z\x9c\xb4\x10\xffa\xf2\0\x15\xad\0\0";
+const X_ABC: &[u8] =
+    b"\0\0\0\0\0\0\x04\xd2\0\x03ann\0\0\0\x01\x03\0\x0dgeneric-local\0\x01.\0\x01x\0\0\0\0\0\0\0\0\0\0\0\0\0\0\0\0\x03\x90\x01P\x98<\xd2O\xb0\xd6\x96?}(\xe1\x7fr\xa9\x99>6G\x06\x81j\xba>%qxP\xc2l\x9c\xd0\xd8\x9d\xbax\x16\xbf\x8f\x01\xcf\xeaAA@\xde]\xae\x22#\xb0\x03a\xa3\x96\x17z\x9c\xb4\x10\xffa\xf2\0\x15\xad\0\0";
 
 // File a/b/y with the same content.
-const Y_ABC: &[u8] = b"\0\0\0\0\0\0\x04\xd3\0\x03ann\0\0\0\x01\x03\0\x0dgeneric-local\0\x03a/b\0\x01y\0\0\0\0\0\0\0\0\0\0\0\0\0\0\0\0\x03\x90\x01P\x98<\xd2O\xb0\xd6\x96?}(\xe1\x7fr\xa9\x99>6G\x06\x81j\xba>%qxP\xc2l\x9c\xd0\xd8\x9d\xbax\x16\xbf\x8f\x01\xcf\xeaAA@\xde]\xae\x22#\xb0\x03a\xa3\x96\x17z\x9c\xb4\x10\xffa\xf2\0\x15\xad\0\0";
+const Y_ABC: &[u8] =
+    b"\0\0\0\0\0\0\x04\xd3\0\x03ann\0\0\0\x01\x03\0\x0dgeneric-local\0\x03a/b\0\x01y\0\0\0\0\0\0\0\0\0\0\0\0\0\0\0\0\x03\x90\x01P\x98<\xd2O\xb0\xd6\x96?}(\xe1\x7fr\xa9\x99>6G\x06\x81j\xba>%qxP\xc2l\x9c\xd0\xd8\x9d\xbax\x16\xbf\x8f\x01\xcf\xeaAA@\xde]\xae\x22#\xb0\x03a\xa3\x96\x17z\x9c\xb4\x10\xffa\xf2\0\x15\xad\0\0";
 
 // File x with `d`, whose content stands behind `abc`.
-const X_D: &[u8] = b"\0\0\0\0\0\0\x04\xd4\0\x03ann\0\0\0\x01\x03\0\x0dgeneric-local\0\x01.\0\x01x\0\0\0\0\0\0\0\0\x03\0\0\0\0\0\0\0\x01\x82w\xe0\x91\x0du\x01\x95\xb4Hyv\x16\xe0\x91\xad<686\xcfN\x16ffi\xa2]\xa2\x80\xa1\x86\x5c-(t\x18\xac>sC\xf0\x16\x89\x0cQ\x0e\x93\xf95&\x11i\xd9\xe3\xf5eCd)\x83\x0f\xaf\x094\xf4\xf8\xe4\0\0";
+const X_D: &[u8] =
+    b"\0\0\0\0\0\0\x04\xd4\0\x03ann\0\0\0\x01\x03\0\x0dgeneric-local\0\x01.\0\x01x\0\0\0\0\0\0\0\0\x03\0\0\0\0\0\0\0\x01\x82w\xe0\x91\x0du\x01\x95\xb4Hyv\x16\xe0\x91\xad<686\xcfN\x16ffi\xa2]\xa2\x80\xa1\x86\x5c-(t\x18\xac>sC\xf0\x16\x89\x0cQ\x0e\x93\xf95&\x11i\xd9\xe3\xf5eCd)\x83\x0f\xaf\x094\xf4\xf8\xe4\0\0";
 
 // A download of a/b/y.
-const GET_Y: &[u8] = b"\0\0\0\0\0\0\x04\xd5\0\x03ann\0\0\0\x01\x09\0\x0dgeneric-local\0\x03a/b\0\x01y";
+const GET_Y: &[u8] =
+    b"\0\0\0\0\0\0\x04\xd5\0\x03ann\0\0\0\x01\x09\0\x0dgeneric-local\0\x03a/b\0\x01y";
 
 // Folder f.
-const FOLDER: &[u8] = b"\0\0\0\0\0\0\x04\xd6\0\x03ann\0\0\0\x01\x02\0\x0dgeneric-local\0\x01.\0\x01f";
+const FOLDER: &[u8] =
+    b"\0\0\0\0\0\0\x04\xd6\0\x03ann\0\0\0\x01\x02\0\x0dgeneric-local\0\x01.\0\x01f";
 
 // File y, whose content doesn't begin where the kept ones end.
-const Y_END: &[u8] = b"\0\0\0\0\0\0\x04\xd7\0\x03ann\0\0\0\x01\x03\0\x0dgeneric-local\0\x01.\0\x01y\0\0\0\0\0\0\0\0\x01\0\0\0\0\0\0\0\x03\x90\x01P\x98<\xd2O\xb0\xd6\x96?}(\xe1\x7fr\xa9\x99>6G\x06\x81j\xba>%qxP\xc2l\x9c\xd0\xd8\x9d\xbax\x16\xbf\x8f\x01\xcf\xeaAA@\xde]\xae\x22#\xb0\x03a\xa3\x96\x17z\x9c\xb4\x10\xffa\xf2\0\x15\xad\0\0";
+const Y_END: &[u8] =
+    b"\0\0\0\0\0\0\x04\xd7\0\x03ann\0\0\0\x01\x03\0\x0dgeneric-local\0\x01.\0\x01y\0\0\0\0\0\0\0\0\x01\0\0\0\0\0\0\0\x03\x90\x01P\x98<\xd2O\xb0\xd6\x96?}(\xe1\x7fr\xa9\x99>6G\x06\x81j\xba>%qxP\xc2l\x9c\xd0\xd8\x9d\xbax\x16\xbf\x8f\x01\xcf\xeaAA@\xde]\xae\x22#\xb0\x03a\xa3\x96\x17z\x9c\xb4\x10\xffa\xf2\0\x15\xad\0\0";
 
 // Whether each content that the edits name is that one.
 fn name_only(edits: &[Edit], wanted: Option<FileRef>) -> bool
@@ -66,11 +72,7 @@ fn names_only(edit: &Edit, wanted: Option<FileRef>) -> bool
 }
 
 // Stages a content as one piece.
-fn stage<G: Ground>(
-    store: &mut Store,
-    outside: &mut G,
-    content: &[u8],
-) -> Result<Staged, Stop>
+fn stage<G: Ground>(store: &mut Store, outside: &mut G, content: &[u8]) -> Result<Staged, Stop>
     requires still_open { store.old.closed ≡ None }
     requires quiet { G.tells → ⊥ }
     ensures keep { IfOk result (λ s. MayKeep store.new.contents (Some s)) }
@@ -80,9 +82,7 @@ fn stage<G: Ground>(
     store
         .stage_piece(outside, content, 65_536)
         .map_err(|fault| Stop::Stage(fault))?;
-    store
-        .stage_end(outside)
-        .map_err(|fault| Stop::Stage(fault))
+    store.stage_end(outside).map_err(|fault| Stop::Stage(fault))
 }
 
 // The change that has these bytes.
@@ -202,8 +202,11 @@ fn items_and_contents(rt: HostRuntime) -> Result<(), Fail> {
     let mut store = three(alloc, &mut ground, &most)?;
     assert_eq!(rt; store.commits(), 3);
     assert_eq!(rt; store.kept_length(), 3);
-    assert_eq!(rt; store.used(), 358);
-    assert_eq!(rt; content_at(alloc, &mut store, &mut ground, "x")?.as_slice(), b"abc".as_slice());
+    assert_eq!(rt; store.used(), 327);
+    assert_eq!(rt;
+        content_at(alloc, &mut store, &mut ground, "x")?.as_slice(),
+        b"abc".as_slice()
+    );
     commit(alloc, &mut store, &mut ground, X_D, b"d")?;
     commit(alloc, &mut store, &mut ground, FOLDER, b"d")?;
     assert_eq!(rt; store.kept_length(), 4);
@@ -216,9 +219,18 @@ fn items_and_contents(rt: HostRuntime) -> Result<(), Fail> {
     assert_eq!(rt; again.closed(), None);
     let listed = format!(in alloc; "{:?}", again.items().len())?;
     assert_eq!(rt; listed.as_str(), "5");
-    assert_eq!(rt; content_at(alloc, &mut again, &mut ground, "x")?.as_slice(), b"d".as_slice());
-    assert_eq!(rt; content_at(alloc, &mut again, &mut ground, "a/b/y")?.as_slice(), b"abc".as_slice());
-    assert_eq!(rt; content_at(alloc, &mut again, &mut ground, "f"), Err(Stop::NoFile));
+    assert_eq!(rt;
+        content_at(alloc, &mut again, &mut ground, "x")?.as_slice(),
+        b"d".as_slice()
+    );
+    assert_eq!(rt;
+        content_at(alloc, &mut again, &mut ground, "a/b/y")?.as_slice(),
+        b"abc".as_slice()
+    );
+    assert_eq!(rt;
+        content_at(alloc, &mut again, &mut ground, "f"),
+        Err(Stop::NoFile)
+    );
     Ok(())
 }
 
@@ -269,11 +281,7 @@ fn has_first(alloc: Global, store: &Store, count: u64) -> Result<bool, Stop> {
 }
 
 // Commits the three first changes to an open store, and gives the fault of the first commit that has one.
-fn commit_three<G: Ground>(
-    alloc: Global,
-    store: &mut Store,
-    outside: &mut G,
-) -> Result<(), Stop>
+fn commit_three<G: Ground>(alloc: Global, store: &mut Store, outside: &mut G) -> Result<(), Stop>
     requires { G.tells → ⊥ }
 {
     commit(alloc, store, outside, X_ABC, b"abc")?;
@@ -286,18 +294,24 @@ fn each_call_fails_in_turn(rt: HostRuntime) -> Result<(), Fail> {
     let alloc = rt.alloc();
     let most = Limits::standard();
     let device = Err(Stop::Commit(CommitFault::Device));
-    for number in 10..60u64 {
+    for number in 11..39u64 {
         let failing = [number].to_vec(alloc)?;
         let mut ground = Quiet::new(FaultyGround::new(alloc, 200, 4000, failing)?);
         let mut store = open(alloc, &mut ground, &most)?;
         let done = commit_three(alloc, &mut store, &mut ground);
         let commits = store.commits();
+        assert!(rt; done.is_err());
         if done == device {
             let closed = CommitFault::Closed(commits + 1);
             assert_eq!(rt; store.closed(), Some(commits + 1));
-            assert_eq!(rt; commit(alloc, &mut store, &mut ground, FOLDER, b"abc"), Err(Stop::Commit(closed)));
+            assert_eq!(rt;
+                commit(alloc, &mut store, &mut ground, FOLDER, b"abc"),
+                Err(Stop::Commit(closed))
+            );
             let again = open(alloc, &mut ground, &most)?;
-            assert!(rt; has_first(alloc, &again, commits)? || has_first(alloc, &again, commits + 1)?);
+            assert!(rt;
+                has_first(alloc, &again, commits)? || has_first(alloc, &again, commits + 1)?
+            );
         } else {
             assert_eq!(rt; store.closed(), None);
             let again = open(alloc, &mut ground, &most)?;
@@ -326,7 +340,9 @@ fn commits_stopped_at_each_moment(rt: HostRuntime) -> Result<(), Fail> {
             for choice in [0u64, 1, 2] {
                 let mut after = Quiet::new(ground.inner.after_crash(alloc, moment, choice)?);
                 let again = open(alloc, &mut after, &most)?;
-                assert!(rt; has_first(alloc, &again, count)? || has_first(alloc, &again, count + 1)?);
+                assert!(rt;
+                    has_first(alloc, &again, count)? || has_first(alloc, &again, count + 1)?
+                );
                 assert!(rt; moment + 1 < moments || has_first(alloc, &again, count + 1)?);
             }
         }
@@ -367,7 +383,9 @@ fn add_body(alloc: Global, ground: &mut MemoryGround, body: &[u8]) -> Result<(),
     match Journal::open(alloc, ground, 1) {
         Err(_) => Err(Stop::Memory),
         Ok((mut journal, _bodies)) => {
-            journal.append(ground, &framed, 1000).map_err(|_| Stop::Memory)
+            journal
+                .append(ground, &framed, 1000)
+                .map_err(|_| Stop::Memory)
         }
     }
 }
