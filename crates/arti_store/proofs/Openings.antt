@@ -15,13 +15,13 @@ use Rattle.arti_journal.specs.Journal.{IsJournal, StandsFor, HoldsJournal, Openi
 use Rattle.arti_blobs.specs.Contents.{Contents, content, end_of, Keeps, IsSame, AllDiffer, staged_length}
 use Rattle.arti_codec.specs.ChangeBytes.{ChangeBytes}
 use Rattle.arti_model.specs.Apply.{Holding}
-use Rattle.arti_store.specs.Items.{file_in, items_in}
+use Rattle.arti_store.specs.Items.{file_in, items_in, HasFileIn}
 use Rattle.arti_store.specs.Changes.{references}
 use Rattle.arti_store.specs.Edited.{rows_after, accepts_changes}
 use Rattle.arti_store.specs.Replays.{Replays, ReplaysNot}
 use Rattle.arti_store.specs.Store.{View, holding_of, AreDistinct, Makes, Stands, HoldsOpen, Reopening}
-use Rattle.arti_store.proofs.References.{content_length, each_within}
-use Rattle.arti_store.proofs.Holdings.{makes_seen, makes_accepts, seen}
+use Rattle.arti_store.proofs.References.{content_length, each_within, keeps_each}
+use Rattle.arti_store.proofs.Holdings.{makes_seen, makes_accepts, seen, has_after}
 use Rattle.arti_store.proofs.Redoing.{zip_once}
 
 -- ---- contents that differ
@@ -158,3 +158,9 @@ module _ (limits : Limits) (bodies : List (List ℕ)) (rows : List ItemRow) (nam
 
 pub opened_durable : (mid new : State) → IsDurable mid → OnlyReads mid new → IsDurable new
 opened_durable mid new durable reads = λ c left. durable c (reads.disk.images c left) ∙ sym reads.disk.files
+
+-- the rows that are done again have their contents among the kept ones
+pub opened_has : (limits : Limits) (bodies : List (List ℕ)) (rows : List ItemRow) (names kept : List FileRef) → Replays limits bodies rows names → Keeps [] names kept → All (HasFileIn kept) rows
+opened_has limits bodies rows names kept replays keeps =
+    let named : All (Contains kept) (references replays.changes) = subst (λ (l : List FileRef). All (Contains kept) l) replays.files_are (keeps_each names [] kept keeps) in
+    subst (λ (l : List ItemRow). All (HasFileIn kept) l) (sym replays.rows_are) (has_after kept replays.changes [] (All-nil (HasFileIn kept)) named)
