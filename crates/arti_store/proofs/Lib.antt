@@ -9,3 +9,4 @@ mod Commits
 mod Openings
 mod Redoing
 mod Lengths
+mod Naming
