@@ -1,6 +1,6 @@
 -- What a change more makes, and what a crash leaves while it is committed.
-use Rattle.std.proofs.Common.{◌≡◌, inl, inr, ⊎_elim, ℕ, ◌+◌, ◌^◌, ◌<◌, ◌≤◌, Bool, true, false, cond, List, [], ◌∷◌, ◌++◌, length, get_or, take, Option, Some, None, refl, sym, ◌∙◌, ap, subst, arith, length-append}
-use Rattle.std.specs.Prelude.{All, Contains, map, IfSome, IsSomeAnd, IsTrue, ◌↔◌}
+use Rattle.std.proofs.Common.{◌≡◌, inl, inr, ⊎_elim, ℕ, ◌+◌, ◌^◌, ◌<◌, ◌≤◌, Bool, true, false, cond, List, [], ◌∷◌, ◌++◌, length, get_or, Option, Some, None, refl, sym, ◌∙◌, ap, subst, arith, length-append}
+use Rattle.std.specs.Prelude.{All, Contains, map, IfSome, IsSomeAnd, ◌↔◌}
 use Rattle.std.specs.List.{AllZip}
 use Rattle.std.specs.Int.{w32, to_be_bytes}
 use Rattle.std.proofs.lemmas.Bool.{cases_lt}
@@ -10,22 +10,20 @@ use Rattle.arti_rows.specs.declared.limits.Limits.{Limits}
 use Rattle.arti_rows.specs.declared.rows.FileRef.{FileRef}
 use Rattle.arti_rows.specs.declared.rows.ItemRow.{ItemRow}
 use Rattle.arti_rows.specs.declared.edits.Change.{Change}
-use Rattle.arti_rows.specs.declared.refusal.Refusal.{Refusal}
-use Rattle.arti_ground.specs.State.{Bytes, State, IsDurable, LeavesDisk, Passes, Follows}
+use Rattle.arti_ground.specs.State.{Bytes, State, IsDurable, Passes}
 use Rattle.arti_ground.proofs.Moments.{passes_map}
-use Rattle.arti_journal.specs.Journal.{StandsFor, HoldsJournal, IsBefore, IsAfter, Appending, Appended, header, opened_record, records, opened}
+use Rattle.arti_journal.specs.Journal.{HoldsJournal, Appending, header, records, opened}
 use Rattle.arti_blobs.specs.declared.staging.Staged.{Staged}
-use Rattle.arti_blobs.specs.declared.staging.Staging.{Staging}
-use Rattle.arti_blobs.specs.Contents.{Contents, content, end_of, Keeps, kept_with, staged_length, HoldsContents, KeepsFront, Behind}
+use Rattle.arti_blobs.specs.Contents.{Contents, content, end_of, Keeps, kept_with, staged_length}
 use Rattle.arti_codec.specs.ChangeBytes.{ChangeBytes}
 use Rattle.arti_model.specs.Store.{File}
 use Rattle.arti_model.specs.Apply.{Holding, nothing_kept, apply, apply_all, refusal}
-use Rattle.arti_store.specs.Items.{file_in, items_in, HasFileIn}
+use Rattle.arti_store.specs.Items.{file_in, items_in}
 use Rattle.arti_store.specs.Changes.{references_of, references}
 use Rattle.arti_store.specs.Edited.{rows_edited_by}
-use Rattle.arti_store.specs.Store.{View, holding_of, Accepted, AreDistinct, Makes, Stands, HoldsOpen, HoldsStore, Standing, kept_and, MayKeep, IsFresh, IsStaged, IsAdded, AddsSome, PassesBlobs, Committing}
+use Rattle.arti_store.specs.Store.{View, holding_of, Accepted, AreDistinct, Makes, HoldsOpen, kept_and, MayKeep, IsFresh, IsStaged, AddsSome, PassesBlobs, Committing}
 use Rattle.arti_store.proofs.References.{end_push, keeps_then, keeps_none, keeps_one, references-push, fresh_not_kept, distinct_push}
-use Rattle.arti_store.proofs.Holdings.{makes_stays, seen_stays, change_seen}
+use Rattle.arti_store.proofs.Holdings.{change_seen}
 
 -- ---- one change more
 

@@ -1,29 +1,28 @@
 -- What changes make, over the bytes of the contents file.
-use Rattle.std.proofs.Common.{◌≡◌, inl, inr, ⊎_elim, ℕ, ◌+◌, ◌^◌, ◌<◌, ◌≤◌, zero, suc, Bool, true, false, cond, List, [], ◌∷◌, ◌++◌, length, get_or, take, drop, length-take, Bor, Option, Some, None, refl, sym, ◌∙◌, ap, subst, arith}
+use Rattle.std.proofs.Common.{◌≡◌, inl, inr, ℕ, ◌+◌, ◌^◌, ◌≤◌, zero, suc, Bool, true, false, cond, List, [], ◌∷◌, ◌++◌, length, get_or, take, drop, length-take, Bor, Option, Some, None, refl, sym, ◌∙◌, ap, subst, arith}
 use Rattle.std.specs.Prelude.{ℤ, All, Contains, map, filter, nat_eq, ◌&&◌, ◌≢◌, IfSome, option_map}
 use Rattle.std.specs.List.{list_any}
 use Rattle.std.specs.Option.{option_copied}
 use Rattle.std.specs.Ordering.{is_lt}
 use Rattle.std.specs.Cmp.Lexicographic.{pointwise, nat_list_eq_equiv}
 use Rattle.std.proofs.lemmas.Bool.{eqb-true}
-use Rattle.std.proofs.lemmas.List.{map-append, append-nil, get_or-map, length-map, drop-take, take-take, get_or_default}
+use Rattle.std.proofs.lemmas.List.{map-append, get_or-map, length-map, drop-take, take-take, get_or_default}
 use Rattle.std.proofs.lemmas.List.Elements.{All-nil, All-cons, All-head, All-tail, All-append, All-weaker, All-map, All-filter, All-contains, All-contains_itself}
 use Rattle.std.proofs.lemmas.List.Folds.{list_any_none, list_any_at}
 use Rattle.arti_rows.specs.Key.{Key, key_cmp}
 use Rattle.arti_rows.specs.declared.limits.Limits.{Limits}
-use Rattle.arti_rows.specs.declared.rows.Digests.{Digests}
 use Rattle.arti_rows.specs.declared.rows.FileRef.{FileRef}
 use Rattle.arti_rows.specs.declared.rows.ItemRow.{ItemRow}
 use Rattle.arti_rows.specs.declared.edits.Edit.{Edit}
 use Rattle.arti_rows.specs.declared.edits.Edit.TheVariants as edits
 use Rattle.arti_rows.specs.declared.edits.Change.{Change}
 use Rattle.arti_blobs.specs.Contents.{content, end_of, Keeps}
-use Rattle.arti_model.specs.Store.{File, Repository, same_key}
+use Rattle.arti_model.specs.Store.{File, same_key}
 use Rattle.arti_model.specs.Apply.{Holding, nothing_kept, same_digests, same_file, keep, keep_edited, keep_edited_by, apply, apply_all}
 use Rattle.arti_store.specs.Items.{file_in, item_in, items_in, HasFileIn, find_row, put_row, put_rows}
 use Rattle.arti_store.specs.Changes.{edit_references, references_of, references}
-use Rattle.arti_store.specs.Edited.{has_row, missing_above, folder_row, folders_for, file_row, counted_row, rows_with_folder, rows_edited, rows_edited_by, rows_after, accepts_changes}
-use Rattle.arti_store.specs.Store.{View, holding_of, AreDistinct, Makes}
+use Rattle.arti_store.specs.Edited.{has_row, missing_above, folder_row, folders_for, file_row, counted_row, rows_edited, rows_edited_by, rows_after, accepts_changes}
+use Rattle.arti_store.specs.Store.{AreDistinct, Makes}
 use Rattle.arti_store.proofs.References.{keeps_front, keeps_each, keeps_within}
 use Rattle.arti_store.proofs.Views.{items_applied}
 use Rattle.arti_store.proofs.Verdicts.{accepted_seen, accepts_seen}

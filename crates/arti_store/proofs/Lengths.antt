@@ -1,5 +1,5 @@
 -- Changes have bytes.
-use Rattle.std.proofs.Common.{◌≡◌, ℕ, ◌<◌, List, ◌++◌, length, ap, arith, length-append}
+use Rattle.std.proofs.Common.{ℕ, ◌<◌, List, ◌++◌, length, ap, arith, length-append}
 use Rattle.arti_rows.specs.declared.edits.Change.{Change}
 use Rattle.arti_codec.specs.Format.{number}
 use Rattle.arti_codec.specs.ChangeBytes.{moment, text, edit_list, change, ChangeBytes}

@@ -1,10 +1,10 @@
 -- What files stand for when they are opened.
-use Rattle.std.proofs.Common.{◌≡◌, inl, inr, ⊎_elim, ℕ, ◌+◌, ◌-◌, ◌^◌, ◌<◌, ◌≤◌, Bool, true, false, List, [], ◌∷◌, ◌++◌, length, get_or, take, drop, Option, Some, None, refl, sym, ◌∙◌, ap, subst, arith, length-append, length-take, length-drop}
-use Rattle.std.specs.Prelude.{All, AllPairs, Contains, map, ◌≢◌, ◌⊎◌}
+use Rattle.std.proofs.Common.{◌≡◌, inl, inr, ⊎_elim, ℕ, ◌+◌, ◌^◌, ◌≤◌, List, [], ◌∷◌, length, get_or, None, refl, sym, ◌∙◌, ap, subst, arith, length-append}
+use Rattle.std.specs.Prelude.{All, Contains}
 use Rattle.std.specs.List.{AllZip}
 use Rattle.std.specs.Int.{w32, to_be_bytes}
 use Rattle.std.proofs.lemmas.Bool.{false≢true}
-use Rattle.std.proofs.lemmas.List.Elements.{All-nil, All-get_or, All-weaker}
+use Rattle.std.proofs.lemmas.List.Elements.{All-nil}
 use Rattle.arti_rows.specs.declared.limits.Limits.{Limits}
 use Rattle.arti_rows.specs.declared.rows.FileRef.{FileRef}
 use Rattle.arti_rows.specs.declared.rows.ItemRow.{ItemRow}
@@ -12,12 +12,12 @@ use Rattle.arti_rows.specs.declared.edits.Change.{Change}
 use Rattle.arti_ground.specs.State.{Bytes, State, IsDurable, Passes, OnlyReads, SinceSync, AfterSync}
 use Rattle.arti_ground.proofs.Moments.{passes_map, reads_then, since_then}
 use Rattle.arti_journal.specs.Journal.{IsJournal, StandsFor, HoldsJournal, Opening, header, opened_record, records, opened}
-use Rattle.arti_blobs.specs.Contents.{Contents, content, end_of, Keeps, IsSame, AllDiffer, staged_length}
+use Rattle.arti_blobs.specs.Contents.{end_of, Keeps, IsSame, AllDiffer, staged_length}
 use Rattle.arti_codec.specs.ChangeBytes.{ChangeBytes}
 use Rattle.arti_model.specs.Apply.{Holding}
-use Rattle.arti_store.specs.Items.{file_in, items_in, HasFileIn}
+use Rattle.arti_store.specs.Items.{file_in, HasFileIn}
 use Rattle.arti_store.specs.Changes.{references}
-use Rattle.arti_store.specs.Edited.{rows_after, accepts_changes}
+use Rattle.arti_store.specs.Edited.{rows_after}
 use Rattle.arti_store.specs.Replays.{Replays, ReplaysNot}
 use Rattle.arti_store.specs.Store.{View, holding_of, AreDistinct, Makes, Stands, HoldsOpen, Reopening}
 use Rattle.arti_store.proofs.References.{content_length, each_within, keeps_each}

@@ -1,6 +1,6 @@
 -- Where rows stand among others in the default order, and what is put there.
 use Rattle.std.proofs.Common.{◌≡◌, ℕ, ◌+◌, ◌<◌, ◌≤◌, zero, suc, Bool, true, false, cond, List, [], ◌∷◌, ◌++◌, length, get_or, take, drop, refl, sym, ap, subst, ◌∙◌, arith, Ordering, Less, Equal, Greater, ⊎_elim, length-take, length-drop, set, drop-cons, add-one, Option, Some, None, Vec, Global}
-use Rattle.std.specs.Prelude.{All, filter, map, IfOk, IfErr, Result, Ok, Err, MatchResult, ◌&&◌, ◌||◌, is_some, option_map}
+use Rattle.std.specs.Prelude.{All, filter, map, IfOk, IfErr, Result, Ok, Err, ◌&&◌, ◌||◌, is_some}
 use Rattle.std.specs.List.{AllPairs, HoldsAt, insert, find, list_any}
 use Rattle.std.specs.List.Sorted.{IsNonDecreasingBy, IsPartitionPoint, IsBinarySearchResult, IsSearchInRange}
 use Rattle.std.specs.Ordering.{is_lt, ordering_index}
@@ -14,7 +14,7 @@ use Rattle.arti_rows.specs.Key.{Key, key_cmp}
 use Rattle.arti_rows.specs.declared.rows.ItemRow.{ItemRow}
 use Rattle.arti_model.specs.Store.{same_key}
 use Rattle.arti_store.specs.Items.{InOrder, find_row, put_row, put_rows}
-use Rattle.arti_store.specs.Edited.{has_file_row, has_row}
+use Rattle.arti_store.specs.Edited.{has_file_row}
 use Rattle.arti_store.specs.Places.{IsPlace, IsGap, Putting}
 use Rattle.arti_store.proofs.Keys.{total, to_greater, to_less, same_at_equal, other_at_less, other_at_greater}
 

@@ -1,5 +1,5 @@
 -- Which edits and changes are accepted, of items and of the rows that stand for them.
-use Rattle.std.proofs.Common.{◌≡◌, ℕ, ◌+◌, Bool, true, false, cond, List, [], ◌∷◌, ◌++◌, length, Option, Some, None, refl, sym, ap, ◌∙◌}
+use Rattle.std.proofs.Common.{◌≡◌, ℕ, ◌+◌, Bool, true, false, cond, List, [], ◌∷◌, length, Option, Some, None, refl, sym, ap, ◌∙◌}
 use Rattle.std.specs.Prelude.{ℤ, not, ◌&&◌, ◌||◌, ◌==◌, nat_le, is_none}
 use Rattle.std.specs.List.{find, list_any}
 use Rattle.arti_rows.specs.Key.{Key, folders_above}
@@ -11,11 +11,10 @@ use Rattle.arti_rows.specs.declared.edits.Change.{Change}
 use Rattle.arti_rows.specs.declared.refusal.Refusal.{Refusal}
 use Rattle.arti_rows.specs.declared.refusal.Refusal.TheVariants.{Full}
 use Rattle.arti_rows.specs.declared.refusal.Which.TheVariants.{Items}
-use Rattle.arti_model.specs.Store.{Item, has_file, has_item}
-use Rattle.arti_model.specs.Step.{missing_folders}
-use Rattle.arti_model.specs.Apply.{Holding, is_local, refused_if, refused_below, file_above, has_folder, added_with, passes_limit, put_refusal, edit_refusal, first_refusal, edits_refusal, refusal, edited, apply, nothing_kept}
+use Rattle.arti_model.specs.Store.{has_file, has_item}
+use Rattle.arti_model.specs.Apply.{Holding, is_local, refused_if, refused_below, file_above, added_with, passes_limit, put_refusal, edit_refusal, first_refusal, edits_refusal, refusal, edited, apply}
 use Rattle.arti_store.specs.Items.{file_in, items_in}
-use Rattle.arti_store.specs.Edited.{has_row, has_file_row, has_folder_row, missing_above, count_with, has_room, may_put, accepts_edit, accepts_edits, accepts_change, accepts_changes, rows_edited, rows_edited_by, rows_after}
+use Rattle.arti_store.specs.Edited.{has_row, has_file_row, missing_above, count_with, has_room, may_put, accepts_edit, accepts_edits, accepts_change, accepts_changes, rows_edited, rows_edited_by}
 use Rattle.arti_store.specs.Store.{Accepted}
 use Rattle.arti_store.proofs.Views.{any_agree, has_seen, file_seen, missing_seen, length_seen, edit_seen, items_applied}
 

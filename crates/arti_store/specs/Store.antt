@@ -1,5 +1,5 @@
 -- What a store is, and what files stand for (of this project).
-use Rattle.std.specs.Prelude.{◌≡◌, ◌≢◌, ◌⊎◌, ℕ, ◌+◌, ◌-◌, ◌^◌, ◌<◌, ◌≤◌, min, List, [], ◌∷◌, ◌++◌, length, map, Bool, IsTrue, Option, None, Some, All, AllPairs, Contains}
+use Rattle.std.specs.Prelude.{◌≡◌, ◌≢◌, ◌⊎◌, ℕ, ◌+◌, ◌-◌, ◌^◌, ◌<◌, ◌≤◌, min, List, [], ◌∷◌, length, map, IsTrue, Option, None, Some, AllPairs, Contains}
 use Rattle.std.specs.List.{AllZip}
 use Rattle.arti_rows.specs.declared.limits.Limits.{Limits}
 use Rattle.arti_rows.specs.declared.rows.FileRef.{FileRef}
@@ -13,7 +13,7 @@ use Rattle.arti_codec.specs.ChangeBytes.{ChangeBytes}
 use Rattle.arti_model.specs.Store.{File}
 use Rattle.arti_model.specs.Apply.{Holding, nothing_kept, apply, apply_all, refusal}
 use Rattle.arti_store.specs.Items.{file_in, items_in}
-use Rattle.arti_store.specs.Changes.{references_of, references}
+use Rattle.arti_store.specs.Changes.{references}
 
 -- what contracts see of a store: its rows in the default order, its contents, the length that is used of the journal, its limits, how
 -- many commits answered Ok, and the number of the commit that closed it

@@ -1,7 +1,6 @@
 use Rattle.std.proofs.Common.{◌≡◌, List, ◌∷◌, ◌++◌, sym, subst, ap, ◌∙◌, rules}
 use Rattle.std.specs.Prelude.{All, Contains}
 use Rattle.std.specs.Vec.Iter.{into_iter_items}
-use Rattle.arti_rows.specs.declared.rows.FileRef.{FileRef}
 use Rattle.arti_rows.specs.declared.rows.ItemRow.{ItemRow}
 use Rattle.arti_rows.specs.declared.edits.Edit.{Edit}
 use Rattle.arti_store.specs.Items.{HasFileIn}

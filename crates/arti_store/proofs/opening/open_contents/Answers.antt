@@ -1,7 +1,7 @@
 use Rattle.std.proofs.Common.{◌≡◌, ℕ, ◌≤◌, List, [], length, sym, ◌∙◌, ap, subst, arith, rules}
 use Rattle.std.proofs.lemmas.Bool.{false≢true}
 use Rattle.arti_rows.specs.declared.rows.FileRef.{FileRef}
-use Rattle.arti_ground.specs.State.{Bytes, State}
+use Rattle.arti_ground.specs.State.{Bytes}
 use Rattle.arti_blobs.specs.Contents.{Contents, end_of, Keeps, AllDiffer}
 use Rattle.arti_store.specs.Store.{AreDistinct}
 use Rattle.arti_store.proofs.References.{keeps_once}

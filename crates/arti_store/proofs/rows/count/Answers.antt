@@ -1,5 +1,4 @@
-use Rattle.std.proofs.Common.{◌≡◌, Bool, true, false, cond, refl, sym, subst, ap, ◌∙◌, rules}
-use Rattle.std.specs.Prelude.{map}
+use Rattle.std.proofs.Common.{◌≡◌, Bool, true, false, cond, refl, sym, subst, ◌∙◌, rules}
 use Rattle.arti_rows.specs.declared.rows.ItemRow.{ItemRow}
 use Rattle.arti_model.specs.Store.{same_key}
 use Rattle.arti_store.specs.Items.{InOrder}

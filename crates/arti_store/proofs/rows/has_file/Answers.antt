@@ -1,5 +1,4 @@
-use Rattle.std.proofs.Common.{◌≡◌, Option, None, Some, sym, ap, ◌∙◌, rules}
-use Rattle.arti_rows.specs.declared.rows.ItemRow.{ItemRow}
+use Rattle.std.proofs.Common.{◌≡◌, None, Some, sym, ap, ◌∙◌, rules}
 use Rattle.arti_store.specs.Items.{find_row}
 use Rattle.arti_store.proofs.Places.{file_found, is_file_at}
 use Rattle.arti_store.proofs.rows.has_file.Goals as goal

@@ -1,18 +1,17 @@
-use Rattle.std.proofs.Common.{◌≡◌, ℕ, ◌+◌, ◌^◌, ◌≤◌, List, [], ◌∷◌, ◌++◌, length, Option, None, Some, sym, ◌∙◌, ap, subst, arith, rules}
+use Rattle.std.proofs.Common.{◌≡◌, ℕ, ◌+◌, ◌^◌, ◌≤◌, List, length, Option, None, sym, ◌∙◌, ap, subst, arith, rules}
 use Rattle.std.specs.Prelude.{All, Contains, IfSome}
 use Rattle.std.proofs.lemmas.Bool.{false≢true}
 use Rattle.arti_rows.specs.declared.rows.FileRef.{FileRef}
-use Rattle.arti_rows.specs.declared.rows.ItemRow.{ItemRow}
 use Rattle.arti_ground.specs.State.{State, Passes}
 use Rattle.arti_journal.specs.Journal.{HoldsJournal, Appending, Appended}
 use Rattle.arti_blobs.specs.declared.staging.Staged.{Staged}
 use Rattle.arti_blobs.specs.Contents.{end_of}
-use Rattle.arti_codec.specs.ChangeBytes.{change, ChangeBytes}
+use Rattle.arti_codec.specs.ChangeBytes.{ChangeBytes}
 use Rattle.arti_model.specs.Apply.{apply}
 use Rattle.arti_store.specs.Items.{file_in}
 use Rattle.arti_store.specs.Changes.{references_of}
 use Rattle.arti_store.specs.Edited.{rows_edited_by}
-use Rattle.arti_store.specs.Store.{View, holding_of, HoldsOpen, kept_and, AddsSome, Committing}
+use Rattle.arti_store.specs.Store.{View, holding_of, HoldsOpen, kept_and, Committing}
 use Rattle.arti_store.proofs.Commits.{IsKept, may_none, none_by, names_added, room_added, room_for, kept_by, moments_of, holding_then, holds_then}
 use Rattle.arti_store.proofs.store.Store.commit.Goals as goal
 

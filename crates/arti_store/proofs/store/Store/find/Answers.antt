@@ -1,4 +1,4 @@
-use Rattle.std.proofs.Common.{◌≡◌, ℕ, List, sym, ◌∙◌, ap, subst, rules}
+use Rattle.std.proofs.Common.{◌≡◌, sym, ◌∙◌, ap, subst, rules}
 use Rattle.std.specs.Prelude.{All, Option, IfSome, option_map}
 use Rattle.std.specs.Option.{option_copied}
 use Rattle.arti_rows.specs.declared.rows.ItemRow.{ItemRow}

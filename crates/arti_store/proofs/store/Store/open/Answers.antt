@@ -1,12 +1,10 @@
-use Rattle.std.proofs.Common.{◌≡◌, ℕ, ◌+◌, ◌^◌, ◌≤◌, List, [], length, Err, None, refl, sym, ◌∙◌, ap, subst, arith, rules}
-use Rattle.std.specs.Prelude.{All, Contains}
+use Rattle.std.proofs.Common.{◌≡◌, ℕ, ◌^◌, ◌≤◌, List, [], length, Err, None, refl, sym, ◌∙◌, ap, subst, arith, rules}
 use Rattle.arti_rows.specs.declared.limits.Limits.{Limits}
 use Rattle.arti_rows.specs.declared.rows.FileRef.{FileRef}
 use Rattle.arti_rows.specs.declared.rows.ItemRow.{ItemRow}
 use Rattle.arti_ground.specs.State.{State, IsDurable}
-use Rattle.arti_journal.specs.Journal.{IsJournal, HoldsJournal, opened, bodies_of}
+use Rattle.arti_journal.specs.Journal.{IsJournal, HoldsJournal, bodies_of}
 use Rattle.arti_blobs.specs.Contents.{end_of, Keeps}
-use Rattle.arti_store.specs.declared.fault.OpenFault.{OpenFault}
 use Rattle.arti_store.specs.declared.fault.OpenFault.TheVariants.{NotAStore}
 use Rattle.arti_store.specs.Replays.{Replays, ReplaysNot}
 use Rattle.arti_store.specs.Store.{View, AreDistinct}

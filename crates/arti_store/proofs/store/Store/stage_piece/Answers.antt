@@ -1,8 +1,8 @@
-use Rattle.std.proofs.Common.{◌≡◌, ℕ, List, None, refl, sym, ◌∙◌, ap, subst, arith}
+use Rattle.std.proofs.Common.{◌≡◌, ℕ, List, sym, ◌∙◌, ap, subst, arith}
 use Rattle.std.specs.Prelude.{All}
 use Rattle.arti_rows.specs.declared.rows.FileRef.{FileRef}
 use Rattle.arti_ground.specs.State.{State, Passes, Follows}
-use Rattle.arti_blobs.specs.Contents.{Contents, end_of, KeepsFront, Behind}
+use Rattle.arti_blobs.specs.Contents.{end_of, KeepsFront, Behind}
 use Rattle.arti_store.specs.Items.{HasFileIn}
 use Rattle.arti_store.specs.Store.{View, holding_of, HoldsOpen}
 use Rattle.arti_store.proofs.Images.{holding_stays, store_stays, standing}
