@@ -20,6 +20,7 @@ enum Answer {
     Full,
     Memory,
     Removed,
+    Moved(usize),
     Stays,
 }
 
@@ -27,6 +28,7 @@ enum Answer {
 enum Step {
     Put(bool, u32),
     Remove,
+    Rename(&'static str, &'static str),
 }
 
 #[test]
@@ -59,11 +61,98 @@ fn each_list_is_that_of_plain_rows(rt: HostRuntime) -> Result<(), Fail> {
         let given = match step {
             Step::Put(is_file, limit) => put(alloc, &mut tree, &mut rows, key, is_file, limit)?,
             Step::Remove => remove(&mut tree, &mut rows, &key),
+            Step::Rename(_, _) => Answer::Stays,
         };
         assert_eq!(rt; given, answer, "{repo}/{whole}");
         compare(&rt, alloc, &tree, rows.as_slice())?;
     }
     Ok(())
+}
+
+#[test]
+fn each_list_is_that_of_renamed_rows(rt: HostRuntime) -> Result<(), Fail> {
+    let file = Step::Put(true, 50);
+    let folder = Step::Put(false, 50);
+    let alloc = rt.alloc();
+    let mut tree = Tree::new(alloc)?;
+    let mut rows = Vec::new(alloc);
+    for (step, repo, whole, answer) in [
+        (file, "b", "f/g/x", Answer::Added(3)),
+        (file, "b", "f/g/y", Answer::Added(1)),
+        (file, "b", "f/h/i/w", Answer::Added(3)),
+        (file, "b", "f-/g/v", Answer::Added(3)),
+        (file, "b", "f/gg/u", Answer::Added(2)),
+        (folder, "b", "k", Answer::Added(1)),
+        (file, "a", "x", Answer::Added(1)),
+        // A file gets another name, and another folder.
+        (Step::Rename("b", "f/g/x2"), "b", "f/g/x", Answer::Moved(1)),
+        (Step::Rename("b", "k/y"), "b", "f/g/y", Answer::Moved(1)),
+        // A folder with what is beneath it, into another one and to the root.
+        (Step::Rename("b", "k/h"), "b", "f/h", Answer::Moved(3)),
+        (Step::Rename("b", "e"), "b", "k/h/i", Answer::Moved(2)),
+        // Into another repository, from the root and beneath a folder.
+        (Step::Rename("c", "f"), "b", "f", Answer::Moved(5)),
+        (Step::Rename("a", "k"), "b", "k", Answer::Moved(3)),
+        (Step::Rename("a", "k/h/f"), "c", "f", Answer::Moved(5)),
+        (file, "b", "f/g/x", Answer::Added(3)),
+        (Step::Rename("d", "x"), "a", "x", Answer::Moved(1)),
+        // The key is there, or the row isn't.
+        (Step::Rename("a", "k/h/f"), "b", "f", Answer::Taken),
+        (Step::Rename("d", "x"), "b", "f/g/x", Answer::Taken),
+        (Step::Rename("d", "y"), "c", "f", Answer::Stays),
+        (Step::Rename("d", "x"), "c", "f", Answer::Stays),
+        (Step::Remove, "a", "k", Answer::Stays),
+        (Step::Remove, "a", "k/y", Answer::Removed),
+        (Step::Rename("b", "f/k"), "a", "k", Answer::Moved(7)),
+        (file, "b", "f/k/h/f/new", Answer::Added(1)),
+    ] {
+        let key = ItemKey::new(alloc, repo, whole)?;
+        let given = match step {
+            Step::Put(is_file, limit) => put(alloc, &mut tree, &mut rows, key, is_file, limit)?,
+            Step::Remove => remove(&mut tree, &mut rows, &key),
+            Step::Rename(to_repo, to) => rename(alloc, &mut tree, &mut rows, &key, to_repo, to)?,
+        };
+        assert_eq!(rt; given, answer, "{repo}/{whole}");
+        compare(&rt, alloc, &tree, rows.as_slice())?;
+    }
+    Ok(())
+}
+
+// The row of a key gets another, and those beneath it, in the plain rows too.
+fn rename(
+    alloc: Global,
+    tree: &mut Tree,
+    rows: &mut Vec<Plain>,
+    key: &ItemKey,
+    repo: &str,
+    to: &str,
+) -> Result<Answer, Fail> {
+    let id = tree.get(key).unwrap_or(1_000);
+    match tree.rename(alloc, id, ItemKey::new(alloc, repo, to)?) {
+        Ok(true) => (),
+        Ok(false) => return Ok(Answer::Stays),
+        Err(TreeFault::Taken) => return Ok(Answer::Taken),
+        Err(_) => return Ok(Answer::Memory),
+    }
+    let mut front = String::from_str(alloc, key.whole(alloc)?.as_str())?;
+    front.push('/')?;
+    let mut moved = 0;
+    for row in rows.iter_mut() {
+        let whole = row.key.whole(alloc)?;
+        let mut new = String::from_str(alloc, to)?;
+        if row.key != *key {
+            match whole.as_str().strip_prefix(front.as_str()) {
+                Some(rest) if row.key.repo == key.repo => {
+                    new.push('/')?;
+                    new.push_str(rest)?;
+                }
+                _ => continue,
+            }
+        }
+        row.key = ItemKey::new(alloc, repo, new.as_str())?;
+        moved += 1;
+    }
+    Ok(Answer::Moved(moved))
 }
 
 // A key is put, into the plain rows too.
