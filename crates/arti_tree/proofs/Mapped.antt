@@ -47,15 +47,6 @@ map_same g h n [] up same = refl
 map_same g h n (y ∷ rows) up same =
     ap (λ (r : Row). r ∷ map g rows) (same y (head_live y rows)) ∙ ap (λ (l : List Row). h y ∷ l) (map_same g h (y.id + 1) rows up.1 (λ x live. same x (tail_live n y x rows up live)))
 
-keys_by : (b : Bool) (f : Row → Key) (new : ℕ → Key) (y : Row) (rows : List Row) → new y.id ≡ f y → map new (ids rows) ≡ map f rows → map new (ids (cond b (y ∷ rows) rows)) ≡ map f (cond b (y ∷ rows) rows)
-keys_by true f new y rows one rest = ap (λ (k : Key). k ∷ map new (ids rows)) one ∙ ap (λ (l : List Key). f y ∷ l) rest
-keys_by false f new y rows one rest = rest
-
--- the keys by the ids of live rows
-pub keys_same : (f : Row → Key) (new : ℕ → Key) (p : Row → Bool) (n : ℕ) (rows : List Row) → RowsFrom n rows → ((x : Row) → IsLive rows x → new x.id ≡ f x) → map new (ids (filter p rows)) ≡ map f (filter p rows)
-keys_same f new p n [] up same = refl
-keys_same f new p n (y ∷ rows) up same = keys_by (p y) f new y (filter p rows) (same y (head_live y rows)) (keys_same f new p (y.id + 1) rows up.1 (λ x live. same x (tail_live n y x rows up live)))
-
 -- a live row as it was
 pub record Was (g : Row → Row) (rows : List Row) (x : Row) : Type 0 where
   pub row : Row

@@ -5,14 +5,11 @@ use Rattle.std.specs.Option.{option_map_or}
 use Rattle.std.specs.List.{filter, list_any}
 use Rattle.std.proofs.lemmas.Bool.{eqb-true, eqb-false, ltb-true, ltb-false}
 use Rattle.arti_tree.specs.Ids.{AscendFrom, Lacks, with_id, without_id}
+use Rattle.arti_tree.specs.Renames.{has, Once}
 use Rattle.arti_tree.specs.Shifts.{with_ids, without_ids, AreNew}
 use Rattle.arti_tree.specs.Rows.{Row, ids, row_of, RowsFrom}
 use Rattle.arti_tree.proofs.IdLists.{yes_eq, no_eq, with_ascends}
 use Rattle.arti_tree.proofs.RowLists.{lower_ids, none_below}
-
--- whether a list has an id
-abbrev pub has : List ℕ → ℕ → Bool
-has xs i = list_any (λ x. x == i) xs
 
 pub below_first : (n : ℕ) (xs : List ℕ) (i : ℕ) → AscendFrom n xs → i < n → has xs i ≡ false
 below_first n [] i up less = refl
@@ -137,27 +134,25 @@ lacks_none id (x ∷ xs) e (suc k) below = lacks_none id xs (or_right (x == id) 
 pub lacks_from : (xs : List ℕ) (id : ℕ) → has xs id ≡ false → Lacks xs id
 lacks_from xs id e = lacks_none id xs e
 
--- ids that ascend and of which the list has none are new to it
-pub are_new : (n : ℕ) (ids xs : List ℕ) → AscendFrom n ids → ((i : ℕ) → has ids i ≡ true → has xs i ≡ false) → AreNew xs ids
-are_new n [] xs up none = tt
-are_new n (id ∷ ids) xs up none = (
+pub once : (n : ℕ) (xs : List ℕ) → AscendFrom n xs → Once xs
+once n [] up = tt
+once n (x ∷ xs) up = (below_first (x + 1) xs x up.1 (omega arith), once (x + 1) xs up.1)
+
+pub false_true : (b : Bool) → b ≡ false → b ≡ true → ⊥
+false_true b e f = let never : false ≡ true = sym e ∙ f in cc
+
+later : (a b : Bool) → b ≡ true → (a || b) ≡ true
+later true b e = refl
+later false b e = e
+
+-- ids that differ and of which the list has none are new to it
+pub are_new : (ids xs : List ℕ) → Once ids → ((i : ℕ) → has ids i ≡ true → has xs i ≡ false) → AreNew xs ids
+are_new [] xs once none = tt
+are_new (id ∷ ids) xs once none = (
   lacks_from xs id (none id (first_has id ids)),
-  are_new (id + 1) ids (with_id id xs) up.1 (λ i there.
-      let more : id + 1 ≤ i = has_least (id + 1) ids i up.1 there in
-      has_with id xs i ∙ ap (λ b. b || has xs i) (no_eq id i (λ e. omega arith)) ∙ none i (later (id == i) (has ids i) there)),
+  are_new ids (with_id id xs) once.1 (λ i there.
+      has_with id xs i ∙ ap (λ b. b || has xs i) (no_eq id i (λ e. false_true (has ids id) once.0 (subst (λ (k : ℕ). has ids k ≡ true) (sym e) there))) ∙ none i (later (id == i) (has ids i) there)),
 )
-  where
-    later : (a b : Bool) → b ≡ true → (a || b) ≡ true
-    later true b e = refl
-    later false b e = e
-
-    least_by : (b : Bool) (n x i : ℕ) (r : Bool) → eqb x i ≡ b → n ≤ x → (b || r) ≡ true → (r ≡ true → x + 1 ≤ i) → n ≤ i
-    least_by true n x i r is le e rest = let same : x ≡ i = eqb-true x i is in omega arith
-    least_by false n x i r is le e rest = let more : x + 1 ≤ i = rest e in omega arith
-
-    has_least : (n : ℕ) (xs : List ℕ) (i : ℕ) → AscendFrom n xs → has xs i ≡ true → n ≤ i
-    has_least n [] i up e = cc
-    has_least n (x ∷ xs) i up e = least_by (eqb x i) n x i (has xs i) refl up.0 e (λ r. has_least (x + 1) xs i up.1 r)
 
 -- the ids of the rows that pass
 rows_by : (b t : Bool) (p : Row → Bool) (x : Row) (rows : List Row) (i : ℕ) → eqb x.id i ≡ b → p x ≡ t → RowsFrom (x.id + 1) rows → has (ids (filter p rows)) i ≡ option_map_or p (row_of rows i) false

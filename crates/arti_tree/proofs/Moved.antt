@@ -12,7 +12,7 @@ use Rattle.arti_tree.proofs.Rises.{found_live, found_passes, same_from_true, sam
 use Rattle.arti_tree.proofs.Folders.{none_in, none_passes}
 use Rattle.arti_tree.proofs.Above.{joined, folder_whole, folder_key, plain}
 use Rattle.arti_tree.proofs.Beneath.{eq_or, beneath_in}
-use Rattle.arti_tree.proofs.Under.{Under, Path, Within, within_cases, within_is, within_itself, under_within, under_beneath, whole_moved, whole_made, key_made, moved_top, moved_parts, path_under, under_path, folder_within, within_folder, cut_joined}
+use Rattle.arti_tree.proofs.Under.{Under, Path, Within, within_cases, within_is, within_itself, under_within, under_beneath, whole_moved, whole_made, key_made, moved_top, moved_parts, path_under, under_path, folder_within, within_folder, folder_in}
 use Rattle.arti_tree.proofs.Mapped.{ids_map, rows_from_map, row_of_map, live_map, was, at_new, differ_new, same_new, one_id, one_key, both_ways}
 
 none_some : {o : Option Row} {x : Row} → o ≡ None → o ≡ Some x → ⊥
@@ -124,7 +124,7 @@ module _ (rows : List Row) (from to : Key) (tree : IsTree rows) (from_is : IsKey
       let parts : (g x).key ≡ record { repo = to.repo; path = whole_of to ++ p.rest; name = x.key.name } = moved_yes from to x.key e ∙ moved_parts from to x.key is p in
       let w : Within from (folder_of x.key) = record { repo = u.repo; rest = p.rest; whole = folder_whole x.key is p.has ∙ p.path } in
       let f_key = folder_key x.key is p.has in
-      let f_in : is_within from (folder_of x.key) ≡ true = folder_in x is p u.repo in
+      let f_in : is_within from (folder_of x.key) ≡ true = folder_in from x.key from_is is p u.repo in
       let f_moved : (g f.row).key ≡ key_of to.repo (whole_of to ++ p.rest) = ap (moved from to) f.key ∙ moved_yes from to (folder_of x.key) f_in ∙ ap (λ (l : List ℕ). key_of to.repo l) (whole_moved from to (folder_of x.key) w) in
       let moved_is : IsKey (g x).key = subst IsKey (sym (moved_yes from to x.key e)) (key_made to.repo (moved_whole from to x.key) (stay x live e)) in
       let up : Under to (g x).key = record {
@@ -134,26 +134,6 @@ module _ (rows : List Row) (from to : Key) (tree : IsTree rows) (from_is : IsKey
       } in
       let q : Path to (g x).key = path_under to (g x).key moved_is up in
       record { folder = f; has = q.has; after = ap folder_of parts ∙ sym f_moved }
-    where
-      folder_in : (x : Row) → IsKey x.key → (p : Path from x.key) → x.key.repo ≡ from.repo → is_within from (folder_of x.key) ≡ true
-      folder_in x is p repo = by_rest p.rest refl
-        where
-          f_key : IsKey (folder_of x.key)
-          f_key = folder_key x.key is p.has
-
-          by_rest : (rest : List ℕ) → p.rest ≡ rest → is_within from (folder_of x.key) ≡ true
-          by_rest [] e =
-              let whole : x.key.path ≡ whole_of from = p.path ∙ ap (λ (l : List ℕ). whole_of from ++ l) e ∙ append-nil (whole_of from) in
-              let same : folder_of x.key ≡ from = ap (λ (q : List ℕ). key_of q x.key.path) repo ∙ ap (λ (l : List ℕ). key_of from.repo l) whole ∙ from_is.cut in
-              ap (is_within from) same ∙ within_itself from
-          by_rest (b ∷ rest) e =
-              let slash : eqb b 47 ≡ true = sym (ap may_follow e) ∙ p.follows in
-              let b_is : b ≡ 47 = eqb-true b 47 slash in
-              under_within from (folder_of x.key) from_is (record {
-                repo = repo;
-                tail = rest;
-                whole = folder_whole x.key is p.has ∙ p.path ∙ ap (λ (l : List ℕ). whole_of from ++ l) (e ∙ ap (λ (n : ℕ). n ∷ rest) b_is);
-              })
 
   pub lying : (x : Row) → IsLive rows x → has_folder x.key ≡ true → x.key ≢ from → Lying rows from to x
   lying x live has ne =

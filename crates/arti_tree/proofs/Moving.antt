@@ -12,7 +12,7 @@ use Rattle.arti_tree.specs.Ids.{AscendFrom, Lacks}
 use Rattle.arti_tree.specs.Rows.{Row, ids, row_of, row_at, same_key, has_folder, folder_of, folder_id, lies_in, is_of, HasFolder, IsLive, IsTree, RowsFrom}
 use Rattle.arti_tree.specs.Slots.{at, row_with, live, is_it, no_key}
 use Rattle.arti_tree.specs.Kept.{inside, Ordered, Kept}
-use Rattle.arti_tree.specs.Renames.{is_within, moved, moved_whole, moved_row, rows_within, rekeyed_all, StayKeys, CanRekey}
+use Rattle.arti_tree.specs.Renames.{is_within, moved, moved_whole, moved_row, has, AreWithin, key_for, rekeyed_all, StayKeys, CanRekey}
 use Rattle.arti_tree.specs.Shifts.{shifted, with_ids, without_ids, AreNew}
 use Rattle.arti_tree.proofs.IdLists.{yes_eq, no_eq}
 use Rattle.arti_tree.proofs.RowLists.{filtered_ascend}
@@ -22,10 +22,11 @@ use Rattle.arti_tree.proofs.Lives.{row_of_live}
 use Rattle.arti_tree.proofs.Looks.{live_in}
 use Rattle.arti_tree.proofs.Beneath.{eq_or}
 use Rattle.arti_tree.proofs.Under.{path_under, within_cases, within_itself, within_is}
-use Rattle.arti_tree.proofs.Members.{has, same_members, has_with_ids, has_without_ids, without_ids_ascend, with_ids_ascend, lacks_from, are_new, has_rows, below_first}
-use Rattle.arti_tree.proofs.Mapped.{ids_map, row_of_map, map_same, keys_same, one_id, one_key}
+use Rattle.arti_tree.proofs.Members.{same_members, has_with_ids, has_without_ids, without_ids_ascend, with_ids_ascend, lacks_from, are_new, has_rows, below_first}
+use Rattle.arti_tree.proofs.Mapped.{ids_map, row_of_map, map_same, one_id, one_key}
 use Rattle.arti_tree.proofs.Moved.{keeps_id, moved_yes, moved_no, new_absent, apart, same_keys, Lying, lying, FolderRow, to_folder, to_stays, top_moved, tree_moved}
-use Rattle.arti_tree.proofs.Rekeys.{with_new, rekeyed_all_is, can_rekey, Once, Distinct, Apart}
+use Rattle.arti_tree.proofs.Rekeys.{with_new, rekeyed_all_is, can_rekey, Distinct, Apart}
+use Rattle.arti_tree.proofs.Finding.{Found, found_by}
 
 -- whether a shifted list has an id
 abbrev form : Bool → Bool → Bool → Bool → Bool
@@ -81,46 +82,18 @@ single id i = by (eqb id i)
     by true = refl
     by false = refl
 
-once : (n : ℕ) (xs : List ℕ) → AscendFrom n xs → Once xs
-once n [] up = tt
-once n (x ∷ xs) up = (below_first (x + 1) xs x up.1 (omega arith), once (x + 1) xs up.1)
-
-record Found (rows : List Row) (from : Key) (i : ℕ) : Type 0 where
-  pub row : Row
-  pub live : IsLive rows row
-  pub is : row.id ≡ i
-  pub of : row_of rows i ≡ Some row
-  pub within : is_within from row.key ≡ true
-
-module _ (rows : List Row) (from to : Key) (tree : IsTree rows) (from_is : IsKey from) (to_is : IsKey to) (stay : StayKeys rows from to) (absent : row_at rows to ≡ None) where
-  abbrev pub w : List ℕ
-  w = ids (rows_within from rows)
-
+module _ (rows : List Row) (from to : Key) (tree : IsTree rows) (from_is : IsKey from) (to_is : IsKey to) (stay : StayKeys rows from to) (absent : row_at rows to ≡ None) (w : List ℕ) (is_w : AreWithin rows from w) where
   abbrev within_row : Row → Bool
   within_row r = is_within from r.key
 
-  pub w_ascends : AscendFrom 0 w
-  w_ascends = filtered_ascend within_row 0 rows tree.ascend
-
-  found_by : (i : ℕ) (o : Option Row) → row_of rows i ≡ o → option_map_or within_row o false ≡ true → Found rows from i
-  found_by i None is e = cc
-  found_by i (Some x) is e = record { row = x; live = found_live (λ r. eqb r.id i) 0 rows x tree.ascend is; is = eqb-true x.id i (found_passes (λ r. eqb r.id i) rows x is); of = is; within = e }
-
   found : (i : ℕ) → has w i ≡ true → Found rows from i
-  found i e = found_by i (row_of rows i) refl (sym (has_rows within_row 0 rows i tree.ascend) ∙ e)
+  found i e = let x = found_by rows within_row i (row_of rows i) tree.ascend refl (sym (is_w.each i) ∙ e) in record { row = x.0; live = x.1; is = x.2; of = x.3; within = x.4 }
 
-  -- the key that the row of an id gets
-  abbrev pub new : ℕ → Key
-  new i = option_map_or (λ r. moved from to r.key) (row_of rows i) no_key
-
-  new_of : (i : ℕ) (x : Row) → row_of rows i ≡ Some x → new i ≡ moved from to x.key
+  new_of : (i : ℕ) (x : Row) → row_of rows i ≡ Some x → key_for rows from to i ≡ moved from to x.key
   new_of i x is = ap (λ o. option_map_or (λ (r : Row). moved from to r.key) o no_key) is
 
-  pub new_keys : map new w ≡ map (λ (r : Row). moved from to r.key) (rows_within from rows)
-  new_keys = keys_same (λ (r : Row). moved from to r.key) new within_row 0 rows tree.ascend (λ x live. new_of x.id x live)
-
-  pub can : CanRekey rows w (map new w)
-  can = can_rekey w new rows tree.ascend (once 0 w w_ascends)
+  pub can : CanRekey rows w (map (key_for rows from to) w)
+  can = can_rekey w (key_for rows from to) rows tree.ascend is_w.once
       (record {
         differ = λ i j a b e.
             let x = found i a in
@@ -133,18 +106,18 @@ module _ (rows : List Row) (from to : Key) (tree : IsTree rows) (from_is : IsKey
         absent = λ x live i a same. let y = found i a in new_absent rows from to tree from_is to_is stay absent x y.row live y.live y.within (sym (new_of i y.row y.of) ∙ sym same);
       })
 
-  at_once : (x : Row) → IsLive rows x → with_new w new x ≡ moved_row from to x
+  at_once : (x : Row) → IsLive rows x → with_new w (key_for rows from to) x ≡ moved_row from to x
   at_once x live = by (is_within from x.key) refl
     where
       has_it : (b : Bool) → is_within from x.key ≡ b → has w x.id ≡ b
-      has_it b e = has_rows within_row 0 rows x.id tree.ascend ∙ ap (λ o. option_map_or within_row o false) live ∙ e
+      has_it b e = is_w.each x.id ∙ ap (λ o. option_map_or within_row o false) live ∙ e
 
-      by : (b : Bool) → is_within from x.key ≡ b → with_new w new x ≡ moved_row from to x
-      by true e = ap (λ t. cond t (record { id = x.id; key = new x.id; is_file = x.is_file }) x) (has_it true e) ∙ ap (λ (k : Key). record { id = x.id; key = k; is_file = x.is_file }) (new_of x.id x live)
-      by false e = ap (λ t. cond t (record { id = x.id; key = new x.id; is_file = x.is_file }) x) (has_it false e) ∙ sym (ap (λ (k : Key). record { id = x.id; key = k; is_file = x.is_file }) (moved_no from to x.key e))
+      by : (b : Bool) → is_within from x.key ≡ b → with_new w (key_for rows from to) x ≡ moved_row from to x
+      by true e = ap (λ t. cond t (record { id = x.id; key = key_for rows from to x.id; is_file = x.is_file }) x) (has_it true e) ∙ ap (λ (k : Key). record { id = x.id; key = k; is_file = x.is_file }) (new_of x.id x live)
+      by false e = ap (λ t. cond t (record { id = x.id; key = key_for rows from to x.id; is_file = x.is_file }) x) (has_it false e) ∙ sym (ap (λ (k : Key). record { id = x.id; key = k; is_file = x.is_file }) (moved_no from to x.key e))
 
-  pub all_moved : rekeyed_all w (map new w) rows ≡ map (moved_row from to) rows
-  all_moved = rekeyed_all_is w new rows ∙ map_same (with_new w new) (moved_row from to) 0 rows tree.ascend at_once
+  pub all_moved : rekeyed_all w (map (key_for rows from to) w) rows ≡ map (moved_row from to) rows
+  all_moved = rekeyed_all_is w (key_for rows from to) rows ∙ map_same (with_new w (key_for rows from to)) (moved_row from to) 0 rows tree.ascend at_once
 
   -- no folder is the row of an id that isn't live
   pub folder_apart : (k : Key) (i : ℕ) → row_of rows i ≡ None → is_it (folder_id rows k) i ≡ false
@@ -247,7 +220,7 @@ module _ (rows : List Row) (from to : Key) (tree : IsTree rows) (from_is : IsKey
         (eq_or (is_within from y.key))
 
     pub repo_new : (q l : List ℕ) → l ≡ ids (filter (is_of q) rows) → pointwise nat_eq q from.repo ≡ false → AreNew l w
-    repo_new q l l_is e = are_new 0 w l w_ascends (λ j there.
+    repo_new q l l_is e = are_new w l is_w.once (λ j there.
         let y = found j there in
         ap (λ (k : List ℕ). has k j) l_is ∙ has_rows (is_of q) 0 rows j tree.ascend ∙ ap (λ o. option_map_or (is_of q) o false) y.of ∙ ap (pointwise nat_eq q) (within_is from y.row.key (tree.keys y.row y.live) y.within).repo ∙ e)
 
@@ -261,18 +234,18 @@ module _ (rows : List Row) (from to : Key) (tree : IsTree rows) (from_is : IsKey
         same_members 0 0 m (ids (filter (is_of q) now))
         (subst (λ (k : List ℕ). AscendFrom 0 k) (sym m_is) (shifted_ascends was will w l l_up (repo_new q l l_is)))
         (filtered_ascend (is_of q) 0 now now_ascends)
-        (λ j. ap (λ (k : List ℕ). has k j) m_is ∙ has_shifted was will w l j ∙ ap (λ b. form was will b (has l j)) (has_rows within_row 0 rows j tree.ascend) ∙ ap (form was will (option_map_or within_row (row_of rows j) false)) (l_has j)
+        (λ j. ap (λ (k : List ℕ). has k j) m_is ∙ has_shifted was will w l j ∙ ap (λ b. form was will b (has l j)) (is_w.each j) ∙ ap (form was will (option_map_or within_row (row_of rows j) false)) (l_has j)
         ∙ repo_by q j (row_of rows j) refl ∙ sym (has_now (is_of q) j))
 
 module _ (slots new_slots : List (Option Slot)) (from to : Key) (all order : List ℕ) (lists new_lists : List (List ℕ)) (repos new_repos : List ℕ → List ℕ) (kept : Kept slots all order lists repos)
     (from_is : IsKey from) (to_is : IsKey to) (stay : StayKeys (live 0 slots) from to) (absent : row_at (live 0 slots) to ≡ None) (folder : HasFolder (live 0 slots) to) (apart_to : is_within from to ≡ false)
-    (r : Row) (r_live : IsLive (live 0 slots) r) (r_key : r.key ≡ from) where
+    (r : Row) (r_live : IsLive (live 0 slots) r) (r_key : r.key ≡ from) (w : List ℕ) (is_w : AreWithin (live 0 slots) from w) where
   abbrev rows : List Row
   rows = live 0 slots
 
   module _ (is_new : live 0 new_slots ≡ map (moved_row from to) rows)
       (lists_are : (i : ℕ) → get_or new_lists i [] ≡ shifted (is_it (folder_id rows from) i) (is_it (folder_id rows to) i) (r.id ∷ []) (get_or lists i []))
-      (repos_are : (q : List ℕ) → new_repos q ≡ shifted (pointwise nat_eq q from.repo) (pointwise nat_eq q to.repo) (ids (rows_within from rows)) (repos q)) where
+      (repos_are : (q : List ℕ) → new_repos q ≡ shifted (pointwise nat_eq q from.repo) (pointwise nat_eq q to.repo) w (repos q)) where
     row_now : (i : ℕ) → option_map (row_with i) (at new_slots i) ≡ option_map (moved_row from to) (row_of rows i)
     row_now i = sym (row_of_live i new_slots) ∙ ap (λ (l : List Row). row_of l i) is_new ∙ row_of_map (moved_row from to) (keeps_id from to) rows i
 
@@ -280,14 +253,14 @@ module _ (slots new_slots : List (Option Slot)) (from to : Key) (all order : Lis
     children_by i None is =
         let none : row_of rows i ≡ None = row_of_live i slots ∙ ap (option_map (row_with i)) is in
         let new_none : at new_slots i ≡ None = none_slot i (at new_slots i) (row_now i ∙ ap (option_map (moved_row from to)) none) in
-        lists_are i ∙ ap (λ b. shifted b (is_it (folder_id rows to) i) (r.id ∷ []) (get_or lists i [])) (folder_apart rows from to kept.tree from_is to_is stay absent from i none)
-        ∙ ap (λ b. shifted false b (r.id ∷ []) (get_or lists i [])) (folder_apart rows from to kept.tree from_is to_is stay absent to i none)
+        lists_are i ∙ ap (λ b. shifted b (is_it (folder_id rows to) i) (r.id ∷ []) (get_or lists i [])) (folder_apart rows from to kept.tree from_is to_is stay absent w is_w from i none)
+        ∙ ap (λ b. shifted false b (r.id ∷ []) (get_or lists i [])) (folder_apart rows from to kept.tree from_is to_is stay absent w is_w to i none)
         ∙ kept.children_are i ∙ ap (inside rows) is ∙ sym (ap (inside (map (moved_row from to) rows)) new_none)
     children_by i (Some s) is =
         let x : Row = row_with i s in
         let x_live : IsLive rows x = live_in slots i s is in
         let f : Filled (at new_slots i) i (moved_row from to x) = filled (at new_slots i) i (moved_row from to x) (row_now i ∙ ap (option_map (moved_row from to)) x_live) in
-        list_moved rows from to kept.tree from_is to_is stay absent folder apart_to r r_live r_key x i (get_or lists i []) (get_or new_lists i []) x_live refl (kept.children_are i ∙ ap (inside rows) is) (lists_are i)
+        list_moved rows from to kept.tree from_is to_is stay absent w is_w folder apart_to r r_live r_key x i (get_or lists i []) (get_or new_lists i []) x_live refl (kept.children_are i ∙ ap (inside rows) is) (lists_are i)
         ∙ ap (λ (k : Key). ids (filter (lies_in k) (map (moved_row from to) rows))) (sym f.key) ∙ sym (ap (inside (map (moved_row from to) rows)) f.is)
 
     -- each list is kept
@@ -298,5 +271,5 @@ module _ (slots new_slots : List (Option Slot)) (from to : Key) (all order : Lis
       order_is = ordered;
       long = long;
       children_are = λ i. children_by i (at slots i) refl ∙ sym (ap (λ (l : List Row). inside l (at new_slots i)) is_new);
-      repos_are = λ q. repo_moved rows from to kept.tree from_is to_is stay absent folder apart_to r r_live r_key q (repos q) (new_repos q) (kept.repos_are q) (repos_are q) ∙ sym (ap (λ (l : List Row). ids (filter (is_of q) l)) is_new);
+      repos_are = λ q. repo_moved rows from to kept.tree from_is to_is stay absent w is_w folder apart_to r r_live r_key q (repos q) (new_repos q) (kept.repos_are q) (repos_are q) ∙ sym (ap (λ (l : List Row). ids (filter (is_of q) l)) is_new);
     }

@@ -13,7 +13,7 @@ use Rattle.arti_tree.specs.declared.slot.Slot.{Slot}
 use Rattle.arti_tree.specs.Rows.{Row, ids, row_of, row_at, same_key, IsLive, RowsFrom}
 use Rattle.arti_tree.specs.Slots.{at, row_with, live, key_at}
 use Rattle.arti_tree.specs.Kept.{Ordered, Rising}
-use Rattle.arti_tree.specs.Renames.{Differ, rekeyed_row, rekeyed, rekeyed_all, CanRekey, Rekeying}
+use Rattle.arti_tree.specs.Renames.{has, Once, Differ, rekeyed_row, rekeyed, rekeyed_all, CanRekey, Rekeying}
 use Rattle.arti_tree.proofs.IdLists.{yes_eq, no_eq, drop_next}
 use Rattle.arti_tree.proofs.Lives.{live_from, row_of_live}
 use Rattle.arti_tree.proofs.Order.{to_less}
@@ -23,7 +23,7 @@ use Rattle.arti_tree.proofs.Looks.{no_row, key_in, before_in, behind_in}
 use Rattle.arti_tree.proofs.Growing.{ids_insert}
 use Rattle.arti_tree.proofs.Shrinking.{ids_remove}
 use Rattle.arti_tree.proofs.Beneath.{eq_or}
-use Rattle.arti_tree.proofs.Members.{has, first_has}
+use Rattle.arti_tree.proofs.Members.{first_has}
 use Rattle.arti_tree.proofs.Mapped.{find_map, row_of_map, live_map, rows_from_map, differ_new, one_id, one_key, was, some_rows}
 
 row_id_by : (b : Bool) (id : ℕ) (key : Key) (r : Row) → (cond b (record { id = r.id; key = key; is_file = r.is_file }) r).id ≡ r.id
@@ -222,11 +222,6 @@ pub record Apart (rows : List Row) (ids : List ℕ) (new : ℕ → Key) : Type 0
 
 pub record Distinct (ids : List ℕ) (new : ℕ → Key) : Type 0 where
   pub differ : (i j : ℕ) → has ids i ≡ true → has ids j ≡ true → new i ≡ new j → i ≡ j
-
--- each id stands there once
-abbrev pub Once : List ℕ → Type 0
-Once [] = Unit {0}
-Once (id ∷ ids) = (has ids id ≡ false) × Once ids
 
 later : (id i : ℕ) (ids : List ℕ) → has ids i ≡ true → has (id ∷ ids) i ≡ true
 later id i ids e = by (id == i) (has ids i) e

@@ -247,3 +247,20 @@ within_folder top k top_is is has e f_is =
     (λ (same : folder_of k ≡ top). under_path top k top_is is (ap (λ (x : Key). x.repo) same) [] (sym whole ∙ ap whole_of same ∙ sym (append-nil (whole_of top))) refl)
     (λ (u : Under top (folder_of k)). under_path top k top_is is u.repo (47 ∷ u.tail) (sym whole ∙ u.whole) refl)
     (within_cases top (folder_of k) f_is e)
+
+-- the folder of what lies beneath a key is the key or lies beneath it
+pub folder_in : (from k : Key) → IsKey from → IsKey k → (p : Path from k) → k.repo ≡ from.repo → is_within from (folder_of k) ≡ true
+folder_in from k from_is is p repo = by_rest p.rest refl
+  where
+    by_rest : (rest : List ℕ) → p.rest ≡ rest → is_within from (folder_of k) ≡ true
+    by_rest [] e =
+        let whole : k.path ≡ whole_of from = p.path ∙ ap (λ (l : List ℕ). whole_of from ++ l) e ∙ append-nil (whole_of from) in
+        let same : folder_of k ≡ from = ap (λ (q : List ℕ). key_of q k.path) repo ∙ ap (λ (l : List ℕ). key_of from.repo l) whole ∙ from_is.cut in
+        ap (is_within from) same ∙ within_itself from
+    by_rest (b ∷ rest) e =
+        let b_is : b ≡ 47 = eqb-true b 47 (sym (ap may_follow e) ∙ p.follows) in
+        under_within from (folder_of k) from_is (record {
+          repo = repo;
+          tail = rest;
+          whole = folder_whole k is p.has ∙ p.path ∙ ap (λ (l : List ℕ). whole_of from ++ l) (e ∙ ap (λ (n : ℕ). n ∷ rest) b_is);
+        })

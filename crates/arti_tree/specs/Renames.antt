@@ -1,13 +1,13 @@
 -- A row that gets another key, and the rows beneath it with it.
 use Rattle.std.specs.Prelude.{◌≡◌, ℕ, ◌==◌, ◌||◌, ◌&&◌, Bool, true, false, if◌then◌else◌, map, drop, List, [], ◌∷◌, ◌++◌, length, Option, Some, None, IfSome, IsSome}
 use Rattle.std.specs.Option.{option_map_or, is_some}
-use Rattle.std.specs.List.{filter, list_any}
+use Rattle.std.specs.List.{list_any}
 use Rattle.arti_rows.specs.Key.{Key, key_of, whole_of, folders_above}
 use Rattle.arti_rows.specs.Names.{key_fault}
 use Rattle.arti_tree.specs.declared.fault.TreeFault.{TreeFault}
 use Rattle.arti_tree.specs.declared.fault.TreeFault.TheVariants.{Taken}
-use Rattle.arti_tree.specs.Ids.{Lacks, with_id, without_id}
 use Rattle.arti_tree.specs.Rows.{Row, row_of, row_at, same_key, IsLive}
+use Rattle.arti_tree.specs.Slots.{no_key}
 
 -- a key is this one, or lies beneath it at whatever depth
 abbrev pub is_within : Key → Key → Bool
@@ -36,13 +36,23 @@ rename_fault rows id to = if is_some (row_of rows id) && is_some (row_at rows to
 abbrev pub StayKeys : List Row → Key → Key → Type 0
 StayKeys rows from to = (r : Row) → IsLive rows r → is_within from r.key ≡ true → key_fault to.repo (moved_whole from to r.key) ≡ None
 
--- the rows whose keys change
-abbrev pub rows_within : Key → List Row → List Row
-rows_within from rows = filter (λ r. is_within from r.key) rows
+-- whether a list has an id
+abbrev pub has : List ℕ → ℕ → Bool
+has ids i = list_any (λ x. x == i) ids
 
--- the keys that rows get
-abbrev pub keys_moved : Key → Key → List Row → List Key
-keys_moved from to rows = map (λ r. moved from to r.key) rows
+-- each id stands there once
+abbrev pub Once : List ℕ → Type 0
+Once [] = Unit {0}
+Once (id ∷ ids) = (has ids id ≡ false) × Once ids
+
+-- the ids of the rows within a key, each once
+pub record AreWithin (rows : List Row) (from : Key) (ids : List ℕ) : Type 0 where
+  pub once : Once ids
+  pub each : (i : ℕ) → has ids i ≡ option_map_or (λ r. is_within from r.key) (row_of rows i) false
+
+-- the key that the row of an id gets
+abbrev pub key_for : List Row → Key → Key → ℕ → Key
+key_for rows from to i = option_map_or (λ r. moved from to r.key) (row_of rows i) no_key
 
 -- what stands behind a folder's path and name in a path beneath it
 abbrev pub may_follow : List ℕ → Bool

@@ -1,14 +1,14 @@
 // The rows of the tree and the lists that are kept of them.
-ghost use Rattle.std.specs.Prelude.{◌≡◌, ◌≢◌, ◌-◌, ◌&&◌, drop, slice_index_or, IfErr, ◌<◌, ◌≤◌, ◌+◌, ◌^◌, vec_len, vec_capacity, List, [], length, if◌then◌else◌, map, option_map, IfOk, IfSome, IsSome, OnOk, OnErr, Some, None, false};
+ghost use Rattle.std.specs.Prelude.{◌≡◌, ◌≢◌, ◌-◌, ◌&&◌, drop, slice_index_or, IfErr, ◌<◌, ◌≤◌, ◌+◌, ◌^◌, vec_len, vec_capacity, List, [], ◌++◌, length, if◌then◌else◌, map, option_map, IfOk, IfSome, IsSome, OnOk, OnErr, Some, None, true, false};
 ghost use Rattle.std.specs.Option.{option_map_or, is_none, is_some};
 ghost use Rattle.std.specs.List.{filter, find};
 ghost use Rattle.arti_tree.specs.Rows.{Row, ids, row_of, row_at, lies_in, is_of, rank_of, folder_id, with_row, without_row, may_go, HasFolder, IsFolder, IsTree};
 ghost use Rattle.arti_tree.specs.Slots.{row_with};
 ghost use Rattle.arti_tree.specs.Searched.{key};
 ghost use Rattle.arti_tree.specs.Adds.{is_end, is_missing, is_file_at, keys_added, put_fault, Adds};
-ghost use Rattle.arti_rows.specs.Key.{folders_above};
+ghost use Rattle.arti_rows.specs.Key.{folders_above, whole_of};
 ghost use Rattle.arti_tree.specs.Chains.{CanAdd, Pushes};
-ghost use Rattle.arti_tree.specs.Renames.{is_within, keys_moved, moved_row, renamed, rename_fault, rows_within, StayKeys};
+ghost use Rattle.arti_tree.specs.Renames.{AreWithin, is_within, key_for, moved_row, renamed, rename_fault, StayKeys};
 
 use crate::TreeFault;
 use crate::ids::{add_ready, drop_id, free_id, insert_ready, push_ready};
@@ -371,7 +371,7 @@ impl Tree {
         to.rules();
         let mut ids = Vec::new(alloc);
         let mut keys = Vec::new(alloc);
-        self.find_within(alloc, from, to, &mut ids, &mut keys)?;
+        self.find_within(alloc, id, from, to, &mut ids, &mut keys)?;
         let folders = (self.folder(from), self.folder(to));
         shift_both(
             &mut self.children,
@@ -387,10 +387,12 @@ impl Tree {
         Ok(())
     }
 
-    // The ids of the rows within a key, and the keys that they get where it becomes another.
+    // The ids of the rows within the key of an id, and the keys that they get where it becomes another: its own first, and
+    // behind it what lies in each.
     fn find_within(
         &self,
         alloc: Global,
+        id: u32,
         from: &ItemKey,
         to: &ItemKey,
         found: &mut Vec<u32>,
@@ -398,23 +400,68 @@ impl Tree {
     ) -> Result<(), AllocError>
         requires no_ids { found.old.items ≡ [] }
         requires no_keys { keys.old.items ≡ [] }
+        requires live { option_map (λ r. r.key) (row_of self.now id) ≡ Some from.now }
         requires keys { StayKeys self.now from.now to.now }
-        ensures ids { OnOk result (found.new.items ≡ ids (rows_within from.now self.now)) }
-        ensures keys { OnOk result (keys.new.items ≡ keys_moved from.now to.now (rows_within from.now self.now)) }
+        ensures ids { OnOk result (AreWithin self.now from.now found.new.items) }
+        ensures keys { OnOk result (keys.new.items ≡ map (key_for self.now from.now to.now) found.new.items) }
     {
         self.rules();
         from.rules();
+        to.rules();
         let whole = from.whole(alloc)?;
         let to_whole = to.whole(alloc)?;
-        for id in self.in_repo(from.repo.as_str()) {
-            let Some(item) = self.key(*id) else {
+        found.push(id)?;
+        keys.push(to.clone()?)?;
+        let mut next = 0usize;
+        'folders: while next < found.len() {
+            let Some(folder) = self.key(found[next]) else {
                 unreachable!();
             };
-            let moved = moved_key(alloc, item, from, whole.as_str(), to, to_whole.as_str())?;
-            if let Some(key) = moved {
-                found.push(*id)?;
-                keys.push(key)?;
-            }
+            self.push_inside(
+                alloc,
+                folder,
+                from,
+                whole.as_str(),
+                to,
+                to_whole.as_str(),
+                found,
+                keys,
+            )?;
+            next += 1;
+        }
+        Ok(())
+    }
+
+    // What lies in a folder is found, with the keys that it gets.
+    fn push_inside(
+        &self,
+        alloc: Global,
+        folder: &ItemKey,
+        from: &ItemKey,
+        whole: &str,
+        to: &ItemKey,
+        to_whole: &str,
+        found: &mut Vec<u32>,
+        keys: &mut Vec<ItemKey>,
+    ) -> Result<(), AllocError>
+        requires within { is_within from.now folder.now ≡ true }
+        requires whole { whole.now ≡ whole_of from.now }
+        requires to_whole { to_whole.now ≡ whole_of to.now }
+        requires keys { StayKeys self.now from.now to.now }
+        ensures ids { OnOk result (found.new.items ≡ found.old.items ++ ids (filter (lies_in folder.now) self.now)) }
+        ensures keys { OnOk result (keys.new.items ≡ keys.old.items ++ map (key_for self.now from.now to.now) (ids (filter (lies_in folder.now) self.now))) }
+    {
+        self.rules();
+        from.rules();
+        for child in self.children(folder) {
+            let Some(item) = self.key(*child) else {
+                unreachable!();
+            };
+            let Some(key) = moved_key(alloc, item, from, whole, to, to_whole)? else {
+                unreachable!();
+            };
+            found.push(*child)?;
+            keys.push(key)?;
         }
         Ok(())
     }

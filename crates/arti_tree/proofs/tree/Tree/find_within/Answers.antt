@@ -1,20 +1,16 @@
-use Rattle.std.proofs.Common.{◌≡◌, ℕ, ◌+◌, ◌<◌, Bool, true, false, cond, List, [], ◌∷◌, ◌++◌, length, get_or, drop, Option, Some, None, option_map, refl, sym, ap, ◌∙◌, subst, arith, rules}
+use Rattle.std.proofs.Common.{◌≡◌, ℕ, ◌+◌, ◌-◌, ◌<◌, ◌≤◌, List, [], ◌∷◌, ◌++◌, length, get_or, Option, Some, None, option_map, refl, sym, ap, ◌∙◌, subst, arith, rules}
+use Rattle.std.specs.Prelude.{map}
+use Rattle.std.specs.Option.{option_map_or}
 use Rattle.std.specs.List.{filter}
-use Rattle.std.proofs.lemmas.List.{get_or_default}
+use Rattle.std.proofs.lemmas.List.{map-append, get_or_default}
 use Rattle.arti_rows.specs.Key.{Key}
-use Rattle.arti_rows.specs.Names.{key_fault}
-use Rattle.arti_tree.specs.Rows.{Row, ids, row_of, is_of, IsTree}
-use Rattle.arti_tree.specs.Renames.{is_within, moved, moved_whole, keys_moved, rows_within, StayKeys}
-use Rattle.arti_tree.proofs.Finding.{Peer, peer, start_ids, start_keys, end_ids, end_keys, more_ids, more_keys, same_ids, same_keys}
+use Rattle.arti_tree.specs.Rows.{Row, ids, row_of, lies_in}
+use Rattle.arti_tree.specs.Slots.{no_key}
+use Rattle.arti_tree.specs.Renames.{is_within, moved, key_for}
+use Rattle.arti_tree.proofs.Moved.{moved_yes}
+use Rattle.arti_tree.proofs.Under.{within_itself, moved_top}
+use Rattle.arti_tree.proofs.Finding.{FindsWithin, Top, top_of, start_of, next_of, few_of, all_of, row_at_place}
 use Rattle.arti_tree.proofs.tree.Tree.find_within.Goals as goal
-use Rattle.arti_tree.proofs.tree.Tree.find_within.Goals.{in-Some-moved+in_ok-push+in_ok-push-2, in_default-moved}
-
-peer_at : (rows : List Row) (from : Key) (tree : IsTree rows) (repo : List ℕ) (list : List ℕ) (i : ℕ) → repo ≡ from.repo → list ≡ ids (filter (is_of repo) rows) → i < length list → Peer rows from i (get_or list i 0)
-peer_at rows from tree repo list i same is below =
-    peer rows from tree list i (get_or list i 0) (is ∙ ap (λ (r : List ℕ). ids (filter (is_of r) rows)) same) below (get_or_default list i 0 (get_or list i 0) below)
-
-row_of_peer : (rows : List Row) (from : Key) (i id : ℕ) (p : Peer rows from i id) → row_of rows id ≡ Some p.row
-row_of_peer rows from i id p = ap (row_of rows) (sym p.id_is) ∙ p.live
 
 key_seen : (k : Key) (o : Option Row) (r : Row) → Some k ≡ option_map (λ (x : Row). x.key) o → o ≡ Some r → k ≡ r.key
 key_seen k o r e is = let same : Some k ≡ Some r.key = e ∙ ap (option_map (λ (x : Row). x.key)) is in cc
@@ -22,84 +18,86 @@ key_seen k o r e is = let same : Some k ≡ Some r.key = e ∙ ap (option_map (�
 none_seen : (o : Option Row) (r : Row) → None ≡ option_map (λ (x : Row). x.key) o → o ≡ Some r → ⊥
 none_seen o r e is = let same : None ≡ Some r.key = e ∙ ap (option_map (λ (x : Row). x.key)) is in cc
 
-some_within : (b : Bool) (k m : Key) (o : Option Key) → o ≡ cond b (Some m) None → o ≡ Some k → (b ≡ true) × (k ≡ m)
-some_within true k m o e is = let same : Some k ≡ Some m = sym is ∙ e in (refl, cc)
-some_within false k m o e is = let no_one : None ≡ Some k = sym e ∙ is in cc
+first_ids : (old new : List ℕ) (id : ℕ) → old ≡ [] → new ≡ old ++ id ∷ [] → new ≡ id ∷ []
+first_ids old new id e f = f ∙ ap (λ (l : List ℕ). l ++ id ∷ []) e
 
-none_within : (b : Bool) (m : Key) (o : Option Key) → o ≡ cond b (Some m) None → o ≡ None → b ≡ false
-none_within true m o e is = let no_one : None ≡ Some m = sym is ∙ e in cc
-none_within false m o e is = refl
+first_keys : (old new : List Key) (k : Key) → old ≡ [] → new ≡ old ++ k ∷ [] → new ≡ k ∷ []
+first_keys old new k e f = f ∙ ap (λ (l : List Key). l ++ k ∷ []) e
 
-pub loop-id-init : goal.loop-id-init
-loop-id-init c =
+pub folders-init : goal.folders-init
+folders-init c =
     let rows = c.args.self.now in
     let from : Key = c.args.from.now in
     let to : Key = c.args.to.now in
+    let id : ℕ = c.args.id in
+    let t = top_of rows id from c.rules.ensures.ascend c.requires.live in
+    let pushed : c.push.new.self.items ≡ c.args.found.now.items ++ id ∷ [] = search rules in
+    let pushed_key : c.push-2.new.self.items ≡ c.args.keys.now.items ++ to ∷ [] = search rules in
+    let found : c.push.new.self.items ≡ id ∷ [] = first_ids c.args.found.now.items c.push.new.self.items id c.requires.no_ids pushed in
+    let keys : c.push-2.new.self.items ≡ to ∷ [] = first_keys c.args.keys.now.items c.push-2.new.self.items to c.requires.no_keys pushed_key in
+    let at : row_of rows id ≡ Some t.row = ap (row_of rows) (sym t.is) ∙ t.live in
+    let key : key_for rows from to id ≡ to = ap (λ o. option_map_or (λ (r : Row). moved from to r.key) o no_key) at ∙ ap (moved from to) t.key ∙ moved_yes from to from (within_itself from) ∙ moved_top from to c.rules-3.ensures in
     record {
-      ids = ap (λ (l : List ℕ). l ++ ids (rows_within from (filter (is_of from.repo) rows))) c.requires.no_ids ∙ start_ids rows from c.rules.ensures;
-      keys = ap (λ (l : List Key). l ++ keys_moved from to (rows_within from (filter (is_of from.repo) rows))) c.requires.no_keys ∙ start_keys rows from c.rules.ensures (λ r. moved from to r.key);
+      finds = subst (λ (l : List ℕ). FindsWithin rows from id l 0) (sym found) (start_of rows from c.rules.ensures c.rules-2.ensures id t);
+      keys = keys ∙ ap (λ (k : Key). k ∷ []) (sym key) ∙ sym (ap (map (key_for rows from to)) found);
     }
 
 pub unreachable-requires : goal.unreachable-requires
 unreachable-requires c =
     let rows = c.args.self.now in
     let from : Key = c.args.from.now in
-    let list : List ℕ = c.in_repo-id-items.result.now in
-    let repo_is : c.as_str.result.now ≡ from.repo = search rules in
-    let p = peer_at rows from c.rules.ensures c.as_str.result.now list c.loop-id.id-index repo_is c.in_repo-id-items.ensures c.loop-id-test.true in
-    none_seen (row_of rows (get_or list c.loop-id.id-index 0)) p.row c.in_default.ensures (row_of_peer rows from c.loop-id.id-index (get_or list c.loop-id.id-index 0) p)
+    let t = top_of rows c.args.id from c.rules.ensures.ascend c.requires.live in
+    let below : c.folders.next < length c.folders.found.items = search rules in
+    let at_n : c.index.result.now ≡ get_or c.folders.found.items c.folders.next 0 = c.index.ensures ∙ get_or_default c.folders.found.items c.folders.next c.index.result.now 0 below in
+    let f = row_at_place rows from c.rules.ensures c.rules-2.ensures c.args.id t c.folders.found.items c.folders.next c.folders.invariant.finds below in
+    none_seen (row_of rows c.index.result.now) f.row c.in_default.ensures (ap (row_of rows) at_n ∙ f.of)
 
-pub moved_key-requires-clause-repo : goal.moved_key-requires-clause-repo
-moved_key-requires-clause-repo c =
+pub push_inside-requires-clause-within : goal.push_inside-requires-clause-within
+push_inside-requires-clause-within c =
     let rows = c.args.self.now in
     let from : Key = c.args.from.now in
-    let list : List ℕ = c.in_repo-id-items.result.now in
-    let id : ℕ = get_or list c.loop-id.id-index 0 in
-    let repo_is : c.as_str.result.now ≡ from.repo = search rules in
-    let p = peer_at rows from c.rules.ensures c.as_str.result.now list c.loop-id.id-index repo_is c.in_repo-id-items.ensures c.loop-id-test.true in
-    let item : c.in-Some.item.now ≡ p.row.key = key_seen c.in-Some.item.now (row_of rows id) p.row c.in-Some.ensures (row_of_peer rows from c.loop-id.id-index id p) in
-    ap (λ (k : Key). k.repo) item ∙ p.repo
+    let t = top_of rows c.args.id from c.rules.ensures.ascend c.requires.live in
+    let below : c.folders.next < length c.folders.found.items = search rules in
+    let at_n : c.index.result.now ≡ get_or c.folders.found.items c.folders.next 0 = c.index.ensures ∙ get_or_default c.folders.found.items c.folders.next c.index.result.now 0 below in
+    let f = row_at_place rows from c.rules.ensures c.rules-2.ensures c.args.id t c.folders.found.items c.folders.next c.folders.invariant.finds below in
+    let key_is : c.in-Some.folder.now ≡ f.row.key = key_seen c.in-Some.folder.now (row_of rows c.index.result.now) f.row c.in-Some.ensures (ap (row_of rows) at_n ∙ f.of) in
+    ap (is_within from) key_is ∙ f.within
 
-pub moved_key-requires-clause-good : goal.moved_key-requires-clause-good
-moved_key-requires-clause-good c =
+pub folders-smaller : goal.folders-smaller
+folders-smaller c =
+    let rows = c.args.self.now in
+    let from : Key = c.args.from.now in
+    let t = top_of rows c.args.id from c.rules.ensures.ascend c.requires.live in
+    let below : c.folders.next < length c.folders.found.items = search rules in
+    let few = few_of rows from c.rules.ensures c.rules-2.ensures c.args.id t c.folders.found.items c.folders.next c.folders.invariant.finds in
+    smaller (length rows) (length c.folders.found.items) c.folders.next below few
+  where
+    smaller : (a b n : ℕ) → n < b → b ≤ a → a - (n + 1) < a - n
+    smaller a b n less le = omega arith
+
+pub folders-preserved : goal.folders-preserved
+folders-preserved c =
     let rows = c.args.self.now in
     let from : Key = c.args.from.now in
     let to : Key = c.args.to.now in
-    let list : List ℕ = c.in_repo-id-items.result.now in
-    let id : ℕ = get_or list c.loop-id.id-index 0 in
-    let repo_is : c.as_str.result.now ≡ from.repo = search rules in
-    let p = peer_at rows from c.rules.ensures c.as_str.result.now list c.loop-id.id-index repo_is c.in_repo-id-items.ensures c.loop-id-test.true in
-    let item : c.in-Some.item.now ≡ p.row.key = key_seen c.in-Some.item.now (row_of rows id) p.row c.in-Some.ensures (row_of_peer rows from c.loop-id.id-index id p) in
-    subst (λ (k : Key). is_within from k ≡ true → key_fault to.repo (moved_whole from to k) ≡ None) (sym item) (λ e. c.requires.keys p.row p.live e)
+    let t = top_of rows c.args.id from c.rules.ensures.ascend c.requires.live in
+    let below : c.folders.next < length c.folders.found.items = search rules in
+    let at_n : c.index.result.now ≡ get_or c.folders.found.items c.folders.next 0 = c.index.ensures ∙ get_or_default c.folders.found.items c.folders.next c.index.result.now 0 below in
+    let f = row_at_place rows from c.rules.ensures c.rules-2.ensures c.args.id t c.folders.found.items c.folders.next c.folders.invariant.finds below in
+    let key_is : c.in-Some.folder.now ≡ f.row.key = key_seen c.in-Some.folder.now (row_of rows c.index.result.now) f.row c.in-Some.ensures (ap (row_of rows) at_n ∙ f.of) in
+    let inside : List ℕ = ids (filter (lies_in f.row.key) rows) in
+    let found : c.push_inside.new.found.items ≡ c.folders.found.items ++ inside = c.in_ok-push_inside.ensures.ids ∙ ap (λ (k : Key). c.folders.found.items ++ ids (filter (lies_in k) rows)) key_is in
+    let keys : c.push_inside.new.keys.items ≡ c.folders.keys.items ++ map (key_for rows from to) inside = c.in_ok-push_inside.ensures.keys ∙ ap (λ (k : Key). c.folders.keys.items ++ map (key_for rows from to) (ids (filter (lies_in k) rows))) key_is in
+    record {
+      finds = subst (λ (l : List ℕ). FindsWithin rows from c.args.id l (c.folders.next + 1)) (sym found)
+          (next_of rows from c.rules.ensures c.rules-2.ensures c.args.id t c.folders.found.items c.folders.next c.folders.invariant.finds below f.row f.live f.is);
+      keys = keys ∙ ap (λ (l : List Key). l ++ map (key_for rows from to) inside) c.folders.invariant.keys ∙ sym (map-append (key_for rows from to) c.folders.found.items inside) ∙ sym (ap (map (key_for rows from to)) found);
+    }
 
-pub loop-id-preserved : goal.loop-id-preserved
-loop-id-preserved c =
+pub returns-clause-ids : goal.returns-clause-ids
+returns-clause-ids c =
     let rows = c.args.self.now in
     let from : Key = c.args.from.now in
-    let to : Key = c.args.to.now in
-    let list : List ℕ = c.in_repo-id-items.result.now in
-    let i = c.loop-id.id-index in
-    let id : ℕ = get_or list i 0 in
-    let inv = c.loop-id.invariant in
-    let repo_is : c.as_str.result.now ≡ from.repo = search rules in
-    let p = peer_at rows from c.rules.ensures c.as_str.result.now list i repo_is c.in_repo-id-items.ensures c.loop-id-test.true in
-    let item : c.in-Some.item.now ≡ p.row.key = key_seen c.in-Some.item.now (row_of rows id) p.row c.in-Some.ensures (row_of_peer rows from i id p) in
-    let out : c.in_ok-moved.moved ≡ cond (is_within from p.row.key) (Some (moved from to p.row.key)) None = c.in_ok-moved.ensures ∙ ap (λ (k : Key). cond (is_within from k) (Some (moved from to k)) None) item in
-    elim c.match-moved.branch [
-      | in-Some-moved+in_ok-push+in_ok-push-2 w ↦
-          let s = some_within (is_within from p.row.key) w.in-Some-moved.key (moved from to p.row.key) c.in_ok-moved.moved out w.in-Some-moved.is in
-          let found : c.match-moved.found.items ≡ c.loop-id.found.items ++ id ∷ [] = search rules in
-          let keys : c.match-moved.keys.items ≡ c.loop-id.keys.items ++ w.in-Some-moved.key ∷ [] = search rules in
-          record {
-            ids = ap (λ (l : List ℕ). l ++ ids (rows_within from (drop (i + 1) (filter (is_of from.repo) rows)))) found ∙ more_ids rows from c.rules.ensures i id p c.loop-id.found.items s.0 inv.ids;
-            keys = ap (λ (l : List Key). l ++ keys_moved from to (rows_within from (drop (i + 1) (filter (is_of from.repo) rows)))) keys ∙ more_keys rows from c.rules.ensures i id p (λ r. moved from to r.key) c.loop-id.keys.items w.in-Some-moved.key s.1 s.0 inv.keys;
-          }
-      | in_default-moved w ↦
-          let out_of : is_within from p.row.key ≡ false = none_within (is_within from p.row.key) (moved from to p.row.key) c.in_ok-moved.moved out w.in_default-moved.is in
-          let found : c.match-moved.found.items ≡ c.loop-id.found.items = search rules in
-          let keys : c.match-moved.keys.items ≡ c.loop-id.keys.items = search rules in
-          record {
-            ids = ap (λ (l : List ℕ). l ++ ids (rows_within from (drop (i + 1) (filter (is_of from.repo) rows)))) found ∙ same_ids rows from c.rules.ensures i id p c.loop-id.found.items out_of inv.ids;
-            keys = ap (λ (l : List Key). l ++ keys_moved from to (rows_within from (drop (i + 1) (filter (is_of from.repo) rows)))) keys ∙ same_keys rows from c.rules.ensures i id p (λ r. moved from to r.key) c.loop-id.keys.items out_of inv.keys;
-          }
-    ]
+    let t = top_of rows c.args.id from c.rules.ensures.ascend c.requires.live in
+    let past : length c.folders.found.items ≤ c.folders.next = search rules in
+    all_of rows from c.rules.ensures c.rules-2.ensures c.args.id t c.folders.found.items c.folders.next c.folders.invariant.finds past

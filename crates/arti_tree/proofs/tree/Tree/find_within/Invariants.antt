@@ -1,11 +1,14 @@
-use Rattle.std.proofs.Common.{◌≡◌, ◌++◌, drop}
-use Rattle.std.specs.List.{filter}
-use Rattle.arti_tree.specs.Rows.{ids, is_of}
-use Rattle.arti_tree.specs.Renames.{keys_moved, rows_within}
+use Rattle.std.proofs.Common.{◌≡◌, ◌-◌, length}
+use Rattle.std.specs.Prelude.{map}
+use Rattle.arti_tree.specs.Renames.{key_for}
+use Rattle.arti_tree.proofs.Finding.{FindsWithin}
 use Rattle.arti_tree.proofs.tree.Tree.find_within.Given as goal
 
-abbrev pub invariant-loop-id : goal.invariant-loop-id
-invariant-loop-id l = record {
-  ids : l.found.items ++ ids (rows_within l.from (drop l.id-index (filter (is_of l.from.repo) l.self))) ≡ ids (rows_within l.from l.self);
-  keys : l.keys.items ++ keys_moved l.from l.to (rows_within l.from (drop l.id-index (filter (is_of l.from.repo) l.self))) ≡ keys_moved l.from l.to (rows_within l.from l.self);
+abbrev pub invariant-folders : goal.invariant-folders
+invariant-folders l = record {
+  finds : FindsWithin l.self l.from l.id l.found.items l.next;
+  keys : l.keys.items ≡ map (key_for l.self l.from l.to) l.found.items;
 }
+
+abbrev pub decreases-folders : goal.decreases-folders
+decreases-folders l = length l.self - l.next
