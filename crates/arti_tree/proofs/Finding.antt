@@ -128,7 +128,7 @@ once_few (x ∷ xs) ys a all =
     let rest : length xs ≤ length (less x ys) = once_few xs (less x ys) a.1 (λ i e. has_less x i ys (λ same. false_true (has xs x) a.0 (ap (has xs) same ∙ e)) ∙ all i (or_right (x == i) (has xs i) e)) in
     omega arith
 
-has_id : (rows : List Row) (i : ℕ) (x : Row) → row_of rows i ≡ Some x → has (ids rows) i ≡ true
+pub has_id : (rows : List Row) (i : ℕ) (x : Row) → row_of rows i ≡ Some x → has (ids rows) i ≡ true
 has_id [] i x e = cc
 has_id (y ∷ rows) i x e = by (eqb y.id i) (row_of rows i) e (has_id rows i x)
   where
@@ -331,3 +331,11 @@ module _ (rows : List Row) (from : Key) (tree : IsTree rows) (from_is : IsKey fr
   -- the row at a place
   pub row_at_place : (found : List ℕ) (n : ℕ) → FindsWithin rows from id found n → n < length found → Found rows from (get_or found n 0)
   row_at_place found n s below = s.sound (get_or found n 0) (at_has found n below)
+
+-- an id that a list has stands at some place
+pub place_of_id : (xs : List ℕ) (i : ℕ) → has xs i ≡ true → (k : ℕ) × (k < length xs) × (get_or xs k 0 ≡ i)
+place_of_id [] i e = cc
+place_of_id (x ∷ xs) i e = ⊎_elim
+    (λ (a : eqb x i ≡ true). let p : (k : ℕ) × (k < length (x ∷ xs)) × (get_or (x ∷ xs) k 0 ≡ i) = (0, omega arith, eqb-true x i a) in p)
+    (λ (b : has xs i ≡ true). let q = place_of_id xs i b in let p : (k : ℕ) × (k < length (x ∷ xs)) × (get_or (x ∷ xs) k 0 ≡ i) = (suc q.0, omega (arith, q.1), q.2) in p)
+    (or_parts (x == i) (has xs i) e)

@@ -52,7 +52,8 @@ fn beneath<'a>(path: &'a str, whole: &str) -> Option<&'a str>
     }
 }
 
-fn behind<'a>(path: &'a str, whole: &str) -> Option<&'a str>
+/// What stands behind a text at another's front.
+pub(crate) fn behind<'a>(path: &'a str, whole: &str) -> Option<&'a str>
     ensures none { result ≡ None → (rest : List ℕ) → path.now ≢ whole.now ++ rest }
     ensures rest { IfSome result (λ rest. path.now ≡ whole.now ++ rest.now) }
 {
@@ -68,7 +69,8 @@ fn may_follow(rest: &[u8]) -> bool
     }
 }
 
-fn joined(alloc: Global, front: &str, rest: &str) -> Result<Text, AllocError>
+/// Two texts as one.
+pub(crate) fn joined(alloc: Global, front: &str, rest: &str) -> Result<Text, AllocError>
     ensures { IfOk result (λ t. t ≡ front.now ++ rest.now) }
 {
     let mut whole = String::from_str(alloc, front)?;
