@@ -11,6 +11,7 @@ use Rattle.arti_rows.specs.Names.{IsKey, is_repo_key, path_fault, key_fault}
 use Rattle.arti_rows.specs.declared.fault.KeyFault.{KeyFault}
 use Rattle.arti_rows.specs.declared.fault.KeyFault.TheVariants.{BadName}
 use Rattle.arti_tree.specs.Rows.{same_key, has_folder, folder_of}
+use Rattle.arti_tree.specs.Searched.{key}
 use Rattle.arti_tree.specs.Renames.{is_within, moved, moved_whole, may_follow}
 use Rattle.arti_tree.proofs.IdLists.{yes_eq}
 use Rattle.arti_tree.proofs.Rises.{same_from_true, same_itself, is_false}
@@ -184,7 +185,9 @@ cut_joined repo path name none =
     (λ k above below e. none (k - (i + 1)) (omega (arith, length-append path (47 ∷ name))) (get_behind path k above ∙ e)) in
     let p : path_of s ≡ path = sym c.0 ∙ take-append_seam path (47 ∷ name) in
     let n : name_of s ≡ name = sym c.1 ∙ next in
-    ap (λ (l : List ℕ). record { repo = repo; path = l; name = name_of s }) p ∙ ap (λ (l : List ℕ). record { repo = repo; path = path; name = l }) n
+    let one : key_of repo s ≡ key repo path (name_of s) = ap (λ (l : List ℕ). key repo l (name_of s)) p in
+    let two : key repo path (name_of s) ≡ key repo path name = ap (λ (l : List ℕ). key repo path l) n in
+    one ∙ two
   where
     drop_next : (p : List ℕ) → drop (length p + 1) (p ++ 47 ∷ name) ≡ name
     drop_next [] = refl
