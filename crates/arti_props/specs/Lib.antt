@@ -1,4 +1,5 @@
 pub mod Ids
+pub mod Kept
 pub mod Rows
 pub mod Lists
 pub mod Asked

@@ -1,54 +1,66 @@
 // An ascending list of ids.
-ghost use Rattle.std.specs.Prelude.{◌≡◌, ◌<◌, ◌⊎◌, ◌==◌, [], true, length, IfOk, OnOk};
+ghost use Rattle.std.specs.Prelude.{◌≡◌, ◌<◌, ◌⊎◌, ◌==◌, ◌∷◌, [], true, length, vec_capacity, IfOk, OnOk};
 ghost use Rattle.std.specs.List.{list_any};
 ghost use Rattle.std.specs.Ordering.{nat_cmp};
 ghost use Rattle.std.specs.List.Sorted.{IsStrictlySortedBy};
-ghost use Rattle.arti_props.specs.Ids.{with_id, without_id};
+ghost use Rattle.arti_props.specs.Ids.{Ascends, with_id, without_id};
 
+use crate::kept::Kept;
 use std::alloc::{AllocError, Global};
 use std::marker::Model;
+use std::slice;
 
 /// An ascending list of ids.
 #[derive(Drop)]
 pub(crate) struct Ids {
-    ids: Vec<u32>,
+    kept: Kept,
 }
 
 impl Model for Ids {
-    ghost use Rattle.std.specs.Prelude.{vec_capacity};
     ghost use Rattle.arti_props.specs.Ids.{IdList, Ascends};
+    ghost use Rattle.arti_props.specs.Kept.{kept_list};
 
     ghost Value = { IdList };
 
-    ghost view = { λ i. record { ids = i.ids.items; capacity = vec_capacity i.ids } };
+    ghost view = { λ i. kept_list i.kept };
 
-    ghost invariant = { λ i. Ascends (λ x. x) i.ids.items };
+    ghost invariant = { λ i. Ascends (λ x. x) (kept_list i.kept).ids };
 }
 
 impl Ids {
     /// No ids, and room for one.
-    pub(crate) fn new(alloc: Global) -> Result<Ids, AllocError>
-        ensures ids { IfOk result (λ i. i.ids ≡ []) }
-        ensures room { IfOk result (λ i. 0 < i.capacity) }
+    pub(crate) fn new() -> Ids
+        ensures ids { result.ids ≡ [] }
+        ensures room { 0 < result.capacity }
     {
-        Ok(Ids {
-            ids: Vec::with_capacity(alloc, 1)?,
-        })
+        Ids { kept: Kept::Empty }
     }
 
     pub(crate) fn as_slice(&self) -> &[u32]
         ensures ids { result.now ≡ self.now.ids }
         ensures ascending { IsStrictlySortedBy nat_cmp result.now }
     {
-        self.ids.as_slice()
+        match &self.kept {
+            Kept::Empty => &[],
+            Kept::One(id) => slice::from_ref(id),
+            Kept::Many(ids) => ids.as_slice(),
+        }
     }
 
     /// Room for one more.
-    pub(crate) fn make_room(&mut self) -> Result<(), AllocError>
+    pub(crate) fn make_room(&mut self, alloc: Global) -> Result<(), AllocError>
         ensures ids { self.new.ids ≡ self.old.ids }
         ensures room { OnOk result (length self.new.ids < self.new.capacity) }
     {
-        self.ids.reserve(1)
+        match &mut self.kept {
+            Kept::Empty => Ok(()),
+            Kept::One(id) => {
+                let id = *id;
+                self.kept = Kept::Many(beside(alloc, id)?);
+                Ok(())
+            }
+            Kept::Many(ids) => ids.reserve(1),
+        }
     }
 
     /// The id is among them.
@@ -56,11 +68,10 @@ impl Ids {
         requires room { (length self.old.ids < self.old.capacity) ⊎ (list_any (λ x. x == id) self.old.ids ≡ true) }
         ensures ids { self.new.ids ≡ with_id id self.old.ids }
     {
-        match self.ids.binary_search(&id) {
-            Ok(_) => {}
-            Err(place) => {
-                let _ = self.ids.insert(place, id);
-            }
+        match &mut self.kept {
+            Kept::Empty => self.kept = Kept::One(id),
+            Kept::One(_) => {}
+            Kept::Many(ids) => add_to(ids, id),
         }
     }
 
@@ -69,11 +80,54 @@ impl Ids {
         ensures ids { self.new.ids ≡ without_id id self.old.ids }
         ensures room { length self.old.ids < self.old.capacity → length self.new.ids < self.new.capacity }
     {
-        match self.ids.binary_search(&id) {
-            Ok(place) => {
-                self.ids.remove(place);
+        match &mut self.kept {
+            Kept::Empty => {}
+            Kept::One(only) => {
+                if *only == id {
+                    self.kept = Kept::Empty;
+                }
             }
-            Err(_) => {}
+            Kept::Many(ids) => remove_from(ids, id),
         }
+    }
+}
+
+// An id, with room for another.
+fn beside(alloc: Global, id: u32) -> Result<Box<Vec<u32>>, AllocError>
+    ensures ids { IfOk result (λ b. b.value.items ≡ id ∷ []) }
+    ensures room { IfOk result (λ b. 1 < vec_capacity b.value) }
+{
+    let mut ids = Vec::with_capacity(alloc, 2)?;
+    ids.push(id)?;
+    Ok(Box::new(alloc, ids)?)
+}
+
+// The id is among them.
+fn add_to(ids: &mut Vec<u32>, id: u32)
+    requires ascend { Ascends (λ x. x) ids.old.items }
+    requires room { (length ids.old.items < vec_capacity ids.old) ⊎ (list_any (λ x. x == id) ids.old.items ≡ true) }
+    ensures ids { ids.new.items ≡ with_id id ids.old.items }
+    ensures ascend { Ascends (λ x. x) ids.new.items }
+{
+    match ids.binary_search(&id) {
+        Ok(_) => {}
+        Err(place) => {
+            let _ = ids.insert(place, id);
+        }
+    }
+}
+
+// The id isn't among them.
+fn remove_from(ids: &mut Vec<u32>, id: u32)
+    requires ascend { Ascends (λ x. x) ids.old.items }
+    ensures ids { ids.new.items ≡ without_id id ids.old.items }
+    ensures ascend { Ascends (λ x. x) ids.new.items }
+    ensures room { length ids.old.items < vec_capacity ids.old → length ids.new.items < vec_capacity ids.new }
+{
+    match ids.binary_search(&id) {
+        Ok(place) => {
+            ids.remove(place);
+        }
+        Err(_) => {}
     }
 }

@@ -4,6 +4,7 @@
 mod ids;
 mod index;
 mod indexing;
+mod kept;
 mod lists;
 mod props;
 mod row;

@@ -31,9 +31,9 @@ pub(crate) fn make_room<K: Ord + Copy + Drop>(
     ensures room { OnOk result (HasRoom (get K.cmp lists.new key.now)) }
 {
     if let Some(ids) = lists.get_mut(key) {
-        return ids.make_room();
+        return ids.make_room(alloc);
     }
-    lists.insert(*key, Ids::new(alloc)?)?;
+    lists.insert(*key, Ids::new())?;
     Ok(())
 }
 

@@ -33,9 +33,9 @@ pub(crate) fn make_room(
     ensures keeps { OnOk result ((t : List ℕ) → HasRoom (get_by_text lists.old t) → HasRoom (get_by_text lists.new t)) }
 {
     if let Some(ids) = lists.get_mut(text) {
-        return ids.make_room();
+        return ids.make_room(alloc);
     }
-    lists.insert(String::from_str(alloc, text)?, Ids::new(alloc)?)?;
+    lists.insert(String::from_str(alloc, text)?, Ids::new())?;
     Ok(())
 }
 

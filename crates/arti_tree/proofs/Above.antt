@@ -17,7 +17,7 @@ use Rattle.arti_tree.proofs.Cuts.{cut_at, uncut, whole_of-key_of}
 abbrev slash : ℕ → Bool
 slash b = b == 47
 
-abbrev HasNone : List ℕ → Type 0
+abbrev pub HasNone : List ℕ → Type 0
 HasNone s = (k : ℕ) → k < length s → get_or s k 0 ≢ 47
 
 record LastSlash (s : List ℕ) : Type 0 where
@@ -52,7 +52,7 @@ last_slash (x ∷ s) = ⊎_elim
     later l = record { at = suc l.at; below = omega (arith, l.below); is = l.is; none = λ k above below. none_behind x s (l.at + 1) l.none k (omega (arith, above)) below }
 
 -- each text is its path and name joined
-rejoins : (s : List ℕ) → Rejoins s (path_of s) (name_of s)
+pub rejoins : (s : List ℕ) → Rejoins s (path_of s) (name_of s)
 rejoins s = ⊎_elim
     (λ (none : HasNone s). let u = uncut s none in subst (λ (b : Bool). MatchBool b (s ≡ path_of s ++ 47 ∷ name_of s) (s ≡ name_of s)) (sym u.2) u.1)
     (λ (l : LastSlash s).
@@ -90,10 +90,10 @@ good_by true whole fault e = e
 good_by false whole fault e = cc
 
 module _ (k : Key) (is : IsKey k) where
-  good : path_fault (whole_of k) ≡ None
+  pub good : path_fault (whole_of k) ≡ None
   good = good_by (is_repo_key k.repo) (whole_of k) BadName is.good
 
-  plain : HasNone k.name
+  pub plain : HasNone k.name
   plain = subst HasNone (ap (λ (x : Key). x.name) is.cut) (plain_name (whole_of k))
 
   whole_by : (b : Bool) → pointwise nat_eq k.path root_path ≡ b → not b ≡ true → whole_of k ≡ k.path ++ 47 ∷ k.name
@@ -101,7 +101,7 @@ module _ (k : Key) (is : IsKey k) where
   whole_by false e f = ap (λ c. cond c k.name (k.path ++ 47 ∷ k.name)) e
 
   module _ (has : has_folder k ≡ true) where
-    joined : whole_of k ≡ k.path ++ 47 ∷ k.name
+    pub joined : whole_of k ≡ k.path ++ 47 ∷ k.name
     joined = whole_by (pointwise nat_eq k.path root_path) refl has
 
     -- its folder's path and name joined is its path
@@ -120,6 +120,10 @@ module _ (k : Key) (is : IsKey k) where
   root_by : (b : Bool) → pointwise nat_eq k.path root_path ≡ b → not b ≡ false → whole_of k ≡ k.name
   root_by true e f = ap (λ c. cond c k.name (k.path ++ 47 ∷ k.name)) e
   root_by false e f = cc
+
+  -- at the root the name is the whole
+  pub at_root : has_folder k ≡ false → whole_of k ≡ k.name
+  at_root has = root_by (pointwise nat_eq k.path root_path) refl has
 
   -- nothing is above an item at the root
   pub none_above : has_folder k ≡ false → folders_above k ≡ []

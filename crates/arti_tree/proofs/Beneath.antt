@@ -29,15 +29,15 @@ any_found p (x ∷ rows) = ap (λ b. p x || b) (any_found p rows) ∙ by_first (
     by_first true o = refl
     by_first false o = refl
 
-or_parts : (a b : Bool) → (a || b) ≡ true → (a ≡ true) ⊎ (b ≡ true)
+pub or_parts : (a b : Bool) → (a || b) ≡ true → (a ≡ true) ⊎ (b ≡ true)
 or_parts true b e = inl refl
 or_parts false b e = inr e
 
-or_right : (a b : Bool) → b ≡ true → (a || b) ≡ true
+pub or_right : (a b : Bool) → b ≡ true → (a || b) ≡ true
 or_right true b e = refl
 or_right false b e = e
 
-eq_or : (b : Bool) → (b ≡ true) ⊎ (b ≡ false)
+pub eq_or : (b : Bool) → (b ≡ true) ⊎ (b ≡ false)
 eq_or true = inl refl
 eq_or false = inr refl
 
@@ -56,7 +56,7 @@ module _ (rows : List Row) (tree : IsTree rows) (k : Key) where
       ∙ or_right (list_any (λ f. same_key f k) (folders_above (folder_of x.key))) (same_key (folder_of x.key) k) parts.1
 
   -- what lies beneath it leads to what lies in it
-  beneath_in : (n : ℕ) (x : Row) → length (whole_of x.key) < n → IsLive rows x → lies_beneath k x ≡ true → Passes rows (lies_in k)
+  pub beneath_in : (n : ℕ) (x : Row) → length (whole_of x.key) < n → IsLive rows x → lies_beneath k x ≡ true → Passes rows (lies_in k)
   beneath_in zero x short live e = absurd (omega arith)
   beneath_in (suc n) x short live e = ⊎_elim
       (λ (has : has_folder x.key ≡ true).

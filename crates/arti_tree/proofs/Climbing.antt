@@ -40,7 +40,7 @@ pub record Stands (k : Key) (i : ℕ) : Type 0 where
   pub is : IsKey (get_or (folders_above k) i k)
   pub above_it : folders_above (get_or (folders_above k) i k) ≡ take i (folders_above k)
 
-last_of : (xs : List Key) (x d : Key) → get_or (xs ++ x ∷ []) (length xs) d ≡ x
+pub last_of : (xs : List Key) (x d : Key) → get_or (xs ++ x ∷ []) (length xs) d ≡ x
 last_of [] x d = refl
 last_of (y ∷ xs) x d = last_of xs x d
 

@@ -21,7 +21,7 @@ use Rattle.arti_tree.proofs.Folders.{filter_none, lying, none_in, lies_by_id}
 use Rattle.arti_tree.proofs.Looks.{no_row, kept_as, live_in}
 use Rattle.arti_tree.proofs.Lives.{row_of_live}
 
-ids_insert : (rows : List Row) (i : ℕ) (r : Row) → ids (insert rows i r) ≡ insert (ids rows) i r.id
+pub ids_insert : (rows : List Row) (i : ℕ) (r : Row) → ids (insert rows i r) ≡ insert (ids rows) i r.id
 ids_insert [] zero r = refl
 ids_insert [] (suc i) r = refl
 ids_insert (x ∷ rows) zero r = refl

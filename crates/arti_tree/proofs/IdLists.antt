@@ -1,5 +1,5 @@
 -- Lists of ids that ascend.
-use Rattle.std.proofs.Common.{◌≡◌, ◌≢◌, ℕ, ◌+◌, ◌-◌, ◌<◌, ◌≤◌, ◌⊎◌, ⊎_elim, inl, inr, zero, suc, Bool, true, false, cond, eqb, ltb, List, [], ◌∷◌, length, get_or, refl, sym, ap, ◌∙◌, arith}
+use Rattle.std.proofs.Common.{◌≡◌, ◌≢◌, ℕ, ◌+◌, ◌-◌, ◌<◌, ◌≤◌, ◌⊎◌, ⊎_elim, inl, inr, zero, suc, Bool, true, false, cond, eqb, ltb, List, [], ◌∷◌, length, get_or, drop, refl, sym, ap, ◌∙◌, arith}
 use Rattle.std.specs.Prelude.{nat_lt, not}
 use Rattle.std.specs.List.{insert, remove}
 use Rattle.std.proofs.lemmas.Bool.{ne_eqb, cases_lt, ltb-true, ltb-false}
@@ -110,3 +110,8 @@ undone id [] lacks = ap (λ b. cond (not b) (id ∷ []) []) (yes_eq id id refl)
 undone id (x ∷ xs) lacks =
     let rest : Lacks xs id = λ k h. lacks (suc k) (omega arith) in
     undone_by (nat_lt id x) id x xs (with_id id xs) (lacks 0 (omega arith)) (lacking id xs rest) (undone id xs rest)
+
+pub drop_next : (xs : List ℕ) (i : ℕ) → i < length xs → drop i xs ≡ get_or xs i 0 ∷ drop (i + 1) xs
+drop_next [] i below = absurd (omega arith)
+drop_next (x ∷ xs) zero below = refl
+drop_next (x ∷ xs) (suc i) below = drop_next xs i (omega arith) ∙ (let e : suc (i + 1) ≡ suc i + 1 = omega arith in ap (λ n. get_or xs i 0 ∷ drop n (x ∷ xs)) e)

@@ -17,3 +17,12 @@ mod Beneath
 mod Chaining
 mod Climbing
 mod Above
+mod Under
+mod Members
+mod Mapped
+mod Moved
+mod Rekeys
+mod Moving
+mod Shifting
+mod Finding
+mod Renaming

@@ -1,6 +1,6 @@
 -- What is found in slots by the ids in the default order.
 use Rattle.std.proofs.Common.{◌≡◌, ℕ, ◌+◌, ◌<◌, ◌≤◌, zero, suc, Bool, true, false, List, [], ◌∷◌, length, get_or, Option, Some, None, option_map, refl, sym, ap, ◌∙◌, subst, arith, Less, Equal, Greater}
-use Rattle.std.specs.Prelude.{IsSome}
+use Rattle.std.specs.Prelude.{IsSome, All}
 use Rattle.std.specs.List.{count_by}
 use Rattle.std.specs.Ordering.{is_lt, is_eq}
 use Rattle.std.proofs.lemmas.List.{get_or-map, length-map}
@@ -11,9 +11,9 @@ use Rattle.std.proofs.lemmas.Cmp.{tied_itself}
 use Rattle.std.proofs.lemmas.List.Sums.{sum_by-cons}
 use Rattle.std.specs.Option.{option_map_or}
 use Rattle.arti_tree.specs.declared.slot.Slot.{Slot}
-use Rattle.arti_tree.specs.Rows.{Row, row_of, row_at, same_key, rank_of, IsLive, IsTree}
+use Rattle.arti_tree.specs.Rows.{Row, ids, row_of, row_at, same_key, rank_of, IsLive, IsTree}
 use Rattle.arti_tree.specs.Slots.{at, row_with, live, key_at, no_key}
-use Rattle.arti_tree.specs.Kept.{Ordered}
+use Rattle.arti_tree.specs.Kept.{Ordered, Rising}
 use Rattle.arti_tree.specs.Searched.{AllLive, RisingAt}
 use Rattle.arti_tree.proofs.Order.{total, to_greater}
 use Rattle.arti_tree.proofs.Rises.{same_from_tie, none_counted, counted, rising_far}
@@ -48,12 +48,47 @@ with_now id (Some s) = refl
 pub seen_row : (slots : List (Option Slot)) (id : ℕ) (o : Option (Bor Slot)) → option_map (λ s. s.now) o ≡ at slots id → option_map (λ s. row_with id s.now) o ≡ row_of (live 0 slots) id
 seen_row slots id o e = with_now id o ∙ ap (option_map (row_with id)) e ∙ sym (row_of_live id slots)
 
+-- live rows by the default order of their keys, and their ids
+module _ (slots : List (Option Slot)) (order : List ℕ) (sorted : List Row) (is : order ≡ ids sorted) (live_all : All (IsLive (live 0 slots)) sorted) (rising : Rising sorted) where
+  long_in : length order ≡ length sorted
+  long_in = ap length is ∙ length-map sorted (λ (r : Row). r.id)
+
+  in_sorted : (i : ℕ) → i < length order → i < length sorted
+  in_sorted i below = omega (arith, long_in)
+
+  pub id_in : (i : ℕ) → i < length order → get_or order i 0 ≡ (get_or sorted i no_row).id
+  id_in i below = ap (λ l. get_or l i 0) is ∙ get_or-map (λ (r : Row). r.id) sorted i no_row 0 (in_sorted i below)
+
+  live_at : (i : ℕ) → i < length order → IsLive (live 0 slots) (get_or sorted i no_row)
+  live_at i below = live_all i no_row (in_sorted i below)
+
+  pub key_in : (i : ℕ) → i < length order → key_at slots (get_or order i 0) ≡ (get_or sorted i no_row).key
+  key_in i below = ap (key_at slots) (id_in i below) ∙ key_by slots (get_or sorted i no_row) (kept_as slots (get_or sorted i no_row) (live_at i below))
+
+  pub live_in_order : AllLive slots order
+  live_in_order i below =
+      let k = kept_as slots (get_or sorted i no_row) (live_at i below) in
+      subst (λ (o : Option Slot). IsSome o) (sym (ap (at slots) (id_in i below) ∙ k.there)) refl
+
+  pub rising_in : RisingAt slots order
+  rising_in i j less below =
+      ap (λ k. key_cmp k (key_at slots (get_or order j 0))) (key_in i (omega arith)) ∙ ap (λ k. key_cmp (get_or sorted i no_row).key k) (key_in j below) ∙ rising_far sorted no_row rising i j less (in_sorted j below)
+
+  module _ (k : Key) (i : ℕ) (within : i ≤ length order)
+      (before : (j : ℕ) → j < i → key_cmp (key_at slots (get_or order j 0)) k ≡ Less)
+      (behind : (j : ℕ) → i ≤ j → j < length order → key_cmp (key_at slots (get_or order j 0)) k ≡ Greater) where
+    pub before_in : (j : ℕ) → j < i → key_cmp (get_or sorted j no_row).key k ≡ Less
+    before_in j less = ap (λ x. key_cmp x k) (sym (key_in j (omega arith))) ∙ before j less
+
+    pub behind_in : (j : ℕ) → i ≤ j → j < length sorted → key_cmp (get_or sorted j no_row).key k ≡ Greater
+    behind_in j le less = ap (λ x. key_cmp x k) (sym (key_in j (omega (arith, long_in)))) ∙ behind j le (omega (arith, long_in))
+
 module _ (slots : List (Option Slot)) (order : List ℕ) (tree : IsTree (live 0 slots)) (ordered : Ordered (live 0 slots) order) where
   abbrev pub rows : List Row
   rows = live 0 slots
 
   long : length order ≡ length ordered.sorted
-  long = ap length ordered.is ∙ length-map ordered.sorted (λ (r : Row). r.id)
+  long = long_in slots order ordered.sorted ordered.is ordered.live ordered.rising
 
   -- the row at a place
   abbrev pub row_there : (i : ℕ) → Row
@@ -64,22 +99,19 @@ module _ (slots : List (Option Slot)) (order : List ℕ) (tree : IsTree (live 0 
 
   -- the id at a place is that of the row there
   pub id_there : (i : ℕ) → i < length order → get_or order i 0 ≡ (row_there i).id
-  id_there i below = ap (λ l. get_or l i 0) ordered.is ∙ get_or-map (λ (r : Row). r.id) ordered.sorted i no_row 0 (within_sorted i below)
+  id_there i below = id_in slots order ordered.sorted ordered.is ordered.live ordered.rising i below
 
   pub live_there : (i : ℕ) → i < length order → IsLive rows (row_there i)
   live_there i below = ordered.live i no_row (within_sorted i below)
 
   pub key_there : (i : ℕ) → i < length order → key_at slots (get_or order i 0) ≡ (row_there i).key
-  key_there i below = ap (key_at slots) (id_there i below) ∙ key_by slots (row_there i) (kept_as slots (row_there i) (live_there i below))
+  key_there i below = key_in slots order ordered.sorted ordered.is ordered.live ordered.rising i below
 
   pub all_live : AllLive slots order
-  all_live i below =
-      let k = kept_as slots (row_there i) (live_there i below) in
-      subst (λ (o : Option Slot). IsSome o) (sym (ap (at slots) (id_there i below) ∙ k.there)) refl
+  all_live = live_in_order slots order ordered.sorted ordered.is ordered.live ordered.rising
 
   pub rising_there : RisingAt slots order
-  rising_there i j less below =
-      ap (λ k. key_cmp k (key_at slots (get_or order j 0))) (key_there i (omega arith)) ∙ ap (λ k. key_cmp (row_there i).key k) (key_there j below) ∙ rising_far ordered.sorted no_row ordered.rising i j less (within_sorted j below)
+  rising_there = rising_in slots order ordered.sorted ordered.is ordered.live ordered.rising
 
   -- a key that ties with that at a place is found there
   pub found_there : (k : Key) (i : ℕ) → i < length order → key_cmp (key_at slots (get_or order i 0)) k ≡ Equal → row_at rows k ≡ Some (row_there i)
@@ -91,10 +123,10 @@ module _ (slots : List (Option Slot)) (order : List ℕ) (tree : IsTree (live 0 
       (before : (j : ℕ) → j < i → key_cmp (key_at slots (get_or order j 0)) k ≡ Less)
       (behind : (j : ℕ) → i ≤ j → j < length order → key_cmp (key_at slots (get_or order j 0)) k ≡ Greater) where
     pub before_there : (j : ℕ) → j < i → key_cmp (row_there j).key k ≡ Less
-    before_there j less = ap (λ x. key_cmp x k) (sym (key_there j (omega arith))) ∙ before j less
+    before_there j less = before_in slots order ordered.sorted ordered.is ordered.live ordered.rising k i within before behind j less
 
     pub behind_there : (j : ℕ) → i ≤ j → j < length ordered.sorted → key_cmp (row_there j).key k ≡ Greater
-    behind_there j le less = ap (λ x. key_cmp x k) (sym (key_there j (omega (arith, long)))) ∙ behind j le (omega (arith, long))
+    behind_there j le less = behind_in slots order ordered.sorted ordered.is ordered.live ordered.rising k i within before behind j le less
 
     -- no row has the key
     pub missing : row_at rows k ≡ None

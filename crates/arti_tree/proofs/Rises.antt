@@ -74,7 +74,7 @@ least_by : (b : Bool) (n : ℕ) (x r : Row) (rest : Option Row) → n ≤ x.id �
 least_by true n x r rest le e more = let same : x ≡ r = cc in omega (arith, ap (λ (y : Row). y.id) same)
 least_by false n x r rest le e more = more e
 
-found_least : (p : Row → Bool) (n : ℕ) (rows : List Row) (r : Row) → RowsFrom n rows → find p rows ≡ Some r → n ≤ r.id
+pub found_least : (p : Row → Bool) (n : ℕ) (rows : List Row) (r : Row) → RowsFrom n rows → find p rows ≡ Some r → n ≤ r.id
 found_least p n [] r up e = cc
 found_least p n (x ∷ rows) r up e = least_by (p x) n x r (find p rows) up.0 e (λ more. omega (arith, up.0, found_least p (x.id + 1) rows r up.1 more))
 

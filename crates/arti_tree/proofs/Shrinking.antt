@@ -18,7 +18,7 @@ use Rattle.arti_tree.proofs.Rises.{found_passes, found_live, rising_remove, othe
 use Rattle.arti_tree.proofs.Folders.{filter_none, none_passes, lies, lies_by_id}
 use Rattle.arti_tree.proofs.Looks.{no_row, live_in}
 
-ids_remove : (rows : List Row) (i : ℕ) → ids (remove rows i) ≡ remove (ids rows) i
+pub ids_remove : (rows : List Row) (i : ℕ) → ids (remove rows i) ≡ remove (ids rows) i
 ids_remove [] zero = refl
 ids_remove [] (suc i) = refl
 ids_remove (x ∷ rows) zero = refl

@@ -7,3 +7,5 @@ pub mod Children
 pub mod Adds
 pub mod Chains
 pub mod Searched
+pub mod Renames
+pub mod Shifts

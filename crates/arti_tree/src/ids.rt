@@ -2,6 +2,7 @@
 ghost use Rattle.std.specs.Prelude.{[], ◌∷◌, ◌++◌, ◌≡◌, ◌≢◌, ℕ, ◌+◌, ◌-◌, ◌<◌, ◌≤◌, ◌^◌, ◌⊎◌, length, slice_index, vec_len, vec_capacity, IfOk, IfErr, OnOk, OnErr};
 ghost use Rattle.std.specs.List.{insert};
 ghost use Rattle.arti_tree.specs.Ids.{AscendFrom, IsGap, Lacks, with_id, without_id};
+ghost use Rattle.arti_tree.specs.Shifts.{AreNew, with_ids, without_ids};
 
 use std::alloc::AllocError;
 
@@ -21,6 +22,8 @@ pub(crate) fn add_id(ids: &mut Vec<u32>, id: u32) -> Result<(), AllocError>
     ensures more { OnOk result (ids.new.items ≡ with_id id ids.old.items) }
     ensures unchanged { OnErr result (ids.new.items ≡ ids.old.items) }
     ensures full { OnErr result (vec_capacity ids.old ≤ vec_len ids.old) }
+    ensures len { OnOk result (vec_len ids.new ≡ vec_len ids.old + 1) }
+    ensures capacity { vec_capacity ids.old ≤ vec_capacity ids.new }
 {
     match place_in(ids, id) {
         Ok(_) => Ok(()),
@@ -36,9 +39,35 @@ pub(crate) fn add_ready(ids: &mut Vec<u32>, id: u32)
     requires ascend { AscendFrom 0 ids.old.items }
     requires absent { Lacks ids.old.items id }
     requires room { vec_len ids.old < vec_capacity ids.old }
-    ensures { ids.new.items ≡ with_id id ids.old.items }
+    ensures items { ids.new.items ≡ with_id id ids.old.items }
+    ensures len { vec_len ids.new ≡ vec_len ids.old + 1 }
+    ensures capacity { vec_capacity ids.old ≤ vec_capacity ids.new }
 {
     let _ = add_id(ids, id);
+}
+
+/// Ids more, or none of them.
+pub(crate) fn add_ids(ids: &mut Vec<u32>, more: &[u32]) -> Result<(), AllocError>
+    requires ascend { AscendFrom 0 ids.old.items }
+    requires absent { AreNew ids.old.items more.now }
+    ensures more { OnOk result (ids.new.items ≡ with_ids more.now ids.old.items) }
+    ensures unchanged { OnErr result (ids.new.items ≡ ids.old.items) }
+{
+    ids.reserve(more.len())?;
+    for id in more {
+        add_ready(ids, *id);
+    }
+    Ok(())
+}
+
+/// Ids less.
+pub(crate) fn drop_ids(ids: &mut Vec<u32>, fewer: &[u32])
+    requires { AscendFrom 0 ids.old.items }
+    ensures { ids.new.items ≡ without_ids fewer.now ids.old.items }
+{
+    for id in fewer {
+        drop_id(ids, *id);
+    }
 }
 
 /// An id less.

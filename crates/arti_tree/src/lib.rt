@@ -3,7 +3,9 @@
 
 mod fault;
 mod ids;
+mod keys;
 mod lists;
+mod rekeying;
 mod repos;
 mod searching;
 mod slot;

@@ -1,10 +1,11 @@
 // The rows of each repository.
-ghost use Rattle.std.specs.Prelude.{◌≡◌, ℕ, List, if◌then◌else◌, OnOk, OnErr};
+ghost use Rattle.std.specs.Prelude.{◌≡◌, ℕ, List, if◌then◌else◌, false, OnOk, OnErr};
 ghost use Rattle.std.specs.Str.{bytes_eq};
 ghost use Rattle.arti_tree.specs.Ids.{AscendFrom, Lacks, with_id, without_id};
 ghost use Rattle.arti_tree.specs.Repos.{list_of};
+ghost use Rattle.arti_tree.specs.Shifts.{AreNew, shifted, with_ids, without_ids};
 
-use crate::ids::{add_id, drop_id};
+use crate::ids::{add_id, add_ids, drop_id, drop_ids};
 use std::alloc::{AllocError, Global};
 use std::collections::BTreeMap;
 
@@ -48,4 +49,54 @@ pub(crate) fn leave(repos: &mut Repos, repo: &str, id: u32)
     if let Some(ids) = repos.get_mut(repo) {
         drop_id(ids, id);
     }
+}
+
+// Rows more in a repository, or none of them.
+fn enter_all(repos: &mut Repos, alloc: Global, repo: &str, ids: &[u32]) -> Result<(), AllocError>
+    requires ascend { AscendFrom 0 (list_of repos.old repo.now) }
+    requires absent { AreNew (list_of repos.old repo.now) ids.now }
+    ensures more { OnOk result ((q : List ℕ) → list_of repos.new q ≡ (if bytes_eq q repo.now then with_ids ids.now (list_of repos.old q) else list_of repos.old q)) }
+    ensures unchanged { OnErr result ((q : List ℕ) → list_of repos.new q ≡ list_of repos.old q) }
+{
+    if let Some(list) = repos.get_mut(repo) {
+        if let Err(error) = add_ids(list, ids) {
+            return Err(error);
+        }
+        return Ok(());
+    }
+    let mut list = Vec::new(alloc);
+    add_ids(&mut list, ids)?;
+    repos.insert(String::from_str(alloc, repo)?, list)?;
+    Ok(())
+}
+
+// Rows less in a repository.
+fn leave_all(repos: &mut Repos, repo: &str, ids: &[u32])
+    requires { AscendFrom 0 (list_of repos.old repo.now) }
+    ensures { (q : List ℕ) → list_of repos.new q ≡ (if bytes_eq q repo.now then without_ids ids.now (list_of repos.old q) else list_of repos.old q) }
+{
+    if let Some(list) = repos.get_mut(repo) {
+        drop_ids(list, ids);
+    }
+}
+
+/// Rows leave a repository for another, or stay where that is the same one.
+pub(crate) fn shift_repos(
+    repos: &mut Repos,
+    alloc: Global,
+    from: &str,
+    to: &str,
+    ids: &[u32],
+) -> Result<(), AllocError>
+    requires ascend { (q : List ℕ) → AscendFrom 0 (list_of repos.old q) }
+    requires absent { bytes_eq from.now to.now ≡ false → AreNew (list_of repos.old to.now) ids.now }
+    ensures shifted { OnOk result ((q : List ℕ) → list_of repos.new q ≡ shifted (bytes_eq q from.now) (bytes_eq q to.now) ids.now (list_of repos.old q)) }
+    ensures unchanged { OnErr result ((q : List ℕ) → list_of repos.new q ≡ list_of repos.old q) }
+{
+    if from == to {
+        return Ok(());
+    }
+    enter_all(repos, alloc, to, ids)?;
+    leave_all(repos, from, ids);
+    Ok(())
 }

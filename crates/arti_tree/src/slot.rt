@@ -1,5 +1,6 @@
 // What is kept of a row under its id.
 ghost use Rattle.std.specs.Prelude.{◌≡◌, ◌==◌, ℕ, ◌<◌, ◌≤◌, if◌then◌else◌, length, vec_len, vec_capacity, option_map, OnOk, Some, None};
+ghost use Rattle.arti_tree.specs.Renames.{rekeyed};
 ghost use Rattle.arti_tree.specs.Rows.{with_row, without_row};
 ghost use Rattle.arti_tree.specs.Slots.{at, live, row_with};
 
@@ -52,6 +53,18 @@ pub(crate) fn empty(slots: &mut Vec<Option<Slot>>, id: u32)
     ensures long { length slots.new.items ≡ length slots.old.items }
 {
     slots[id as usize] = None;
+}
+
+/// A row gets another key.
+pub(crate) fn set_key(slots: &mut Vec<Option<Slot>>, id: u32, key: ItemKey)
+    ensures rows { live 0 slots.new.items ≡ rekeyed id key (live 0 slots.old.items) }
+    ensures long { length slots.new.items ≡ length slots.old.items }
+{
+    let Some(slot) = slot_of(slots, id) else {
+        return;
+    };
+    let is_file = slot.is_file;
+    slots[id as usize] = Some(Slot { key, is_file });
 }
 
 /// Room for one row more.

@@ -1,5 +1,13 @@
 // A tree against plain rows.
+ghost use Rattle.std.specs.Prelude.{◌≡◌, ◌++◌, List, ℕ, None, true, false, IfOk, IfSome};
+ghost use Rattle.arti_rows.specs.Key.{whole_of};
+ghost use Rattle.arti_rows.specs.Names.{key_fault};
+ghost use Rattle.std.specs.List.{list_any};
+ghost use Rattle.arti_tree.specs.Rows.{Row, row_of, same_key, HasFolder, IsFolder, IsLive};
+ghost use Rattle.arti_tree.specs.Renames.{is_within, StayKeys};
+
 use super::*;
+use crate::keys::{behind, joined};
 use arti_rows::ItemKey;
 use std::alloc::{AllocError, Global};
 use std::process::Abort;
@@ -20,6 +28,8 @@ enum Answer {
     Full,
     Memory,
     Removed,
+    Moved(usize),
+    Barred,
     Stays,
 }
 
@@ -27,6 +37,7 @@ enum Answer {
 enum Step {
     Put(bool, u32),
     Remove,
+    Rename(&'static str, &'static str),
 }
 
 #[test]
@@ -59,11 +70,105 @@ fn each_list_is_that_of_plain_rows(rt: HostRuntime) -> Result<(), Fail> {
         let given = match step {
             Step::Put(is_file, limit) => put(alloc, &mut tree, &mut rows, key, is_file, limit)?,
             Step::Remove => remove(&mut tree, &mut rows, &key),
+            Step::Rename(_, _) => Answer::Stays,
         };
         assert_eq!(rt; given, answer, "{repo}/{whole}");
         compare(&rt, alloc, &tree, rows.as_slice())?;
     }
     Ok(())
+}
+
+#[test]
+fn each_list_is_that_of_renamed_rows(rt: HostRuntime) -> Result<(), Fail> {
+    let file = Step::Put(true, 50);
+    let folder = Step::Put(false, 50);
+    let alloc = rt.alloc();
+    let mut tree = Tree::new(alloc)?;
+    let mut rows = Vec::new(alloc);
+    for (step, repo, whole, answer) in [
+        (file, "b", "f/g/x", Answer::Added(3)),
+        (file, "b", "f/g/y", Answer::Added(1)),
+        (file, "b", "f/h/i/w", Answer::Added(3)),
+        (file, "b", "f-/g/v", Answer::Added(3)),
+        (file, "b", "f/gg/u", Answer::Added(2)),
+        (folder, "b", "k", Answer::Added(1)),
+        (file, "a", "x", Answer::Added(1)),
+        // A file gets another name, and another folder.
+        (Step::Rename("b", "f/g/x2"), "b", "f/g/x", Answer::Moved(1)),
+        (Step::Rename("b", "k/y"), "b", "f/g/y", Answer::Moved(1)),
+        // A folder with what is beneath it, into another one and to the root.
+        (Step::Rename("b", "k/h"), "b", "f/h", Answer::Moved(3)),
+        (Step::Rename("b", "e"), "b", "k/h/i", Answer::Moved(2)),
+        // Into another repository, from the root and beneath a folder.
+        (Step::Rename("c", "f"), "b", "f", Answer::Moved(5)),
+        (Step::Rename("a", "k"), "b", "k", Answer::Moved(3)),
+        (Step::Rename("a", "k/h/f"), "c", "f", Answer::Moved(5)),
+        (file, "b", "f/g/x", Answer::Added(3)),
+        (Step::Rename("d", "x"), "a", "x", Answer::Moved(1)),
+        // The key is there, or the row isn't.
+        (Step::Rename("a", "k/h/f"), "b", "f", Answer::Taken),
+        (Step::Rename("d", "x"), "b", "f/g/x", Answer::Taken),
+        (Step::Rename("d", "y"), "c", "f", Answer::Stays),
+        (Step::Rename("d", "x"), "c", "f", Answer::Stays),
+        // Into itself, or where there is no folder.
+        (Step::Rename("a", "k/h/n"), "a", "k", Answer::Barred),
+        (Step::Rename("a", "m/n"), "a", "k", Answer::Barred),
+        (Step::Remove, "a", "k", Answer::Stays),
+        (Step::Remove, "a", "k/y", Answer::Removed),
+        (Step::Rename("b", "f/k"), "a", "k", Answer::Moved(7)),
+        (file, "b", "f/k/h/f/new", Answer::Added(1)),
+    ] {
+        let key = ItemKey::new(alloc, repo, whole)?;
+        let given = match step {
+            Step::Put(is_file, limit) => put(alloc, &mut tree, &mut rows, key, is_file, limit)?,
+            Step::Remove => remove(&mut tree, &mut rows, &key),
+            Step::Rename(to_repo, to) => rename(alloc, &mut tree, &mut rows, &key, to_repo, to)?,
+        };
+        assert_eq!(rt; given, answer, "{repo}/{whole}");
+        compare(&rt, alloc, &tree, rows.as_slice())?;
+    }
+    Ok(())
+}
+
+// The row of a key gets another, and those beneath it, in the plain rows too.
+fn rename(
+    alloc: Global,
+    tree: &mut Tree,
+    rows: &mut Vec<Plain>,
+    key: &ItemKey,
+    repo: &str,
+    to: &str,
+) -> Result<Answer, Fail> {
+    let id = tree.get(key).unwrap_or(1_000);
+    let new_key = ItemKey::new(alloc, repo, to)?;
+    if !may_rename(alloc, tree, id, &new_key)? {
+        return Ok(Answer::Barred);
+    }
+    match tree.rename(alloc, id, new_key) {
+        Ok(true) => (),
+        Ok(false) => return Ok(Answer::Stays),
+        Err(TreeFault::Taken) => return Ok(Answer::Taken),
+        Err(_) => return Ok(Answer::Memory),
+    }
+    let mut front = String::from_str(alloc, key.whole(alloc)?.as_str())?;
+    front.push('/')?;
+    let mut moved = 0;
+    for row in rows.iter_mut() {
+        let whole = row.key.whole(alloc)?;
+        let mut new = String::from_str(alloc, to)?;
+        if row.key != *key {
+            match whole.as_str().strip_prefix(front.as_str()) {
+                Some(rest) if row.key.repo == key.repo => {
+                    new.push('/')?;
+                    new.push_str(rest)?;
+                }
+                _ => continue,
+            }
+        }
+        row.key = ItemKey::new(alloc, repo, new.as_str())?;
+        moved += 1;
+    }
+    Ok(Answer::Moved(moved))
 }
 
 // A key is put, into the plain rows too.
@@ -111,6 +216,126 @@ fn remove(tree: &mut Tree, rows: &mut Vec<Plain>, key: &ItemKey) -> Answer {
     }
     rows.retain(|row| row.id != id);
     Answer::Removed
+}
+
+// Whether what a renaming asks for holds.
+fn may_rename(alloc: Global, tree: &Tree, id: u32, to: &ItemKey) -> Result<bool, AllocError>
+    ensures folder { IfOk result (λ may. may ≡ true → HasFolder tree.now to.now) }
+    ensures apart { IfOk result (λ may. may ≡ true → IfSome (row_of tree.now id) (λ r. is_within r.key to.now ≡ false)) }
+    ensures keys { IfOk result (λ may. may ≡ true → IfSome (row_of tree.now id) (λ r. StayKeys tree.now r.key to.now)) }
+{
+    if !has_folder(alloc, tree, to)? {
+        return Ok(false);
+    }
+    let Some(from) = tree.key(id) else {
+        return Ok(true);
+    };
+    if !is_apart(alloc, from, to)? {
+        return Ok(false);
+    }
+    keys_stay(alloc, tree, from, to)
+}
+
+fn has_folder(alloc: Global, tree: &Tree, key: &ItemKey) -> Result<bool, AllocError>
+    ensures { IfOk result (λ has. has ≡ true → HasFolder tree.now key.now) }
+{
+    key.rules();
+    let folders = key.folders(alloc)?;
+    if folders.is_empty() {
+        return Ok(true);
+    }
+    Ok(is_folder(tree, &folders[folders.len() - 1]))
+}
+
+fn is_folder(tree: &Tree, key: &ItemKey) -> bool
+    ensures { result ≡ true → IsFolder tree.now key.now }
+{
+    tree.rules();
+    match tree.get(key) {
+        Some(id) => !tree.is_file(id),
+        None => false,
+    }
+}
+
+// Whether a key is neither another one nor beneath it.
+fn is_apart(alloc: Global, from: &ItemKey, to: &ItemKey) -> Result<bool, AllocError>
+    ensures { IfOk result (λ apart. apart ≡ true → is_within from.now to.now ≡ false) }
+{
+    let folders = to.folders(alloc)?;
+    Ok(!same(to, from) && !is_among(&folders, from))
+}
+
+fn same(one: &ItemKey, other: &ItemKey) -> bool
+    ensures { result ≡ same_key one.now other.now }
+{
+    one == other
+}
+
+fn is_among(keys: &[ItemKey], key: &ItemKey) -> bool
+    ensures { result ≡ list_any (λ k. same_key k key.now) keys.now }
+{
+    for one in keys {
+        if same(one, key) {
+            return true;
+        }
+    }
+    false
+}
+
+// Whether all keys at whose front a key stands are keys with another at their front.
+fn keys_stay(alloc: Global, tree: &Tree, from: &ItemKey, to: &ItemKey) -> Result<bool, AllocError>
+    ensures { IfOk result (λ stay. stay ≡ true → StayKeys tree.now from.now to.now) }
+{
+    tree.rules();
+    let whole = from.whole(alloc)?;
+    let to_whole = to.whole(alloc)?;
+    all_stay(
+        alloc,
+        tree,
+        whole.as_str(),
+        to.repo.as_str(),
+        to_whole.as_str(),
+    )
+}
+
+fn all_stay(
+    alloc: Global,
+    tree: &Tree,
+    whole: &str,
+    repo: &str,
+    to_whole: &str,
+) -> Result<bool, AllocError>
+    ensures { IfOk result (λ stay. stay ≡ true → (r : Row) → IsLive tree.now r → (rest : List ℕ) → whole_of r.key ≡ whole.now ++ rest → key_fault repo.now (to_whole.now ++ rest) ≡ None) }
+{
+    tree.rules();
+    for id in tree.all() {
+        let Some(key) = tree.key(*id) else {
+            return Ok(false);
+        };
+        if !stays(alloc, key, whole, repo, to_whole)? {
+            return Ok(false);
+        }
+    }
+    Ok(true)
+}
+
+fn stays(
+    alloc: Global,
+    key: &ItemKey,
+    whole: &str,
+    repo: &str,
+    to_whole: &str,
+) -> Result<bool, AllocError>
+    ensures { IfOk result (λ stays. stays ≡ true → (rest : List ℕ) → whole_of key.now ≡ whole.now ++ rest → key_fault repo.now (to_whole.now ++ rest) ≡ None) }
+{
+    let text = key.whole(alloc)?;
+    match behind(text.as_str(), whole) {
+        Some(rest) => {
+            let new_whole = joined(alloc, to_whole, rest)?;
+            Ok(ItemKey::new(alloc, repo, new_whole.as_str()).is_ok())
+        }
+        None => Ok(true),
+    }
 }
 
 fn compare(rt: &impl Abort, alloc: Global, tree: &Tree, rows: &[Plain]) -> Result<(), AllocError> {

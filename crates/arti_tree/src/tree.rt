@@ -1,17 +1,20 @@
 // The rows of the tree and the lists that are kept of them.
-ghost use Rattle.std.specs.Prelude.{◌≡◌, ◌≢◌, ◌-◌, ◌&&◌, drop, slice_index_or, IfErr, ◌<◌, ◌≤◌, ◌+◌, ◌^◌, vec_len, vec_capacity, List, [], length, if◌then◌else◌, map, option_map, IfOk, IfSome, IsSome, OnOk, OnErr, Some, None, false};
-ghost use Rattle.std.specs.Option.{option_map_or, is_none};
+ghost use Rattle.std.specs.Prelude.{◌≡◌, ◌≢◌, ◌-◌, ◌&&◌, drop, slice_index_or, IfErr, ◌<◌, ◌≤◌, ◌+◌, ◌^◌, vec_len, vec_capacity, List, [], ◌++◌, length, if◌then◌else◌, map, option_map, IfOk, IfSome, IsSome, OnOk, OnErr, Some, None, true, false};
+ghost use Rattle.std.specs.Option.{option_map_or, is_none, is_some};
 ghost use Rattle.std.specs.List.{filter, find};
 ghost use Rattle.arti_tree.specs.Rows.{Row, ids, row_of, row_at, lies_in, is_of, rank_of, folder_id, with_row, without_row, may_go, HasFolder, IsFolder, IsTree};
 ghost use Rattle.arti_tree.specs.Slots.{row_with};
 ghost use Rattle.arti_tree.specs.Searched.{key};
 ghost use Rattle.arti_tree.specs.Adds.{is_end, is_missing, is_file_at, keys_added, put_fault, Adds};
-ghost use Rattle.arti_rows.specs.Key.{folders_above};
+ghost use Rattle.arti_rows.specs.Key.{folders_above, whole_of};
 ghost use Rattle.arti_tree.specs.Chains.{CanAdd, Pushes};
+ghost use Rattle.arti_tree.specs.Renames.{AreWithin, is_within, key_for, moved_row, renamed, rename_fault, StayKeys};
 
 use crate::TreeFault;
 use crate::ids::{add_ready, drop_id, free_id, insert_ready, push_ready};
-use crate::lists::{enter_both, leave_folder, make_list};
+use crate::keys::moved_key;
+use crate::lists::{enter_both, leave_folder, make_list, shift_both};
+use crate::rekeying::rekey_all;
 use crate::repos::{Repos, ids_of, leave};
 use crate::searching::{cut, place_of};
 use crate::slot::{Slot, empty, fill, make_room, slot_of};
@@ -324,6 +327,143 @@ impl Tree {
         let mut ids = Vec::with_capacity(alloc, folders.len())?;
         self.add_all(alloc, folders, file, &mut ids)?;
         Ok(ids)
+    }
+
+    /// The row of an id gets another key, and each row beneath it the key that follows from that. All keep their ids.
+    pub fn rename(&mut self, alloc: Global, id: u32, to: ItemKey) -> Result<bool, TreeFault>
+        requires folder { HasFolder self.old to }
+        requires apart { IfSome (row_of self.old id) (λ r. is_within r.key to ≡ false) }
+        requires keys { IfSome (row_of self.old id) (λ r. StayKeys self.old r.key to) }
+        ensures value { IfOk result (λ b. b ≡ is_some (row_of self.old id)) }
+        ensures rows { OnOk result (self.new ≡ renamed self.old id to) }
+        ensures ok { OnOk result (rename_fault self.old id to ≡ None) }
+        ensures fault { IfErr result (λ e. e ≢ TreeFault.Memory → rename_fault self.old id to ≡ Some e) }
+        ensures unchanged { OnErr result (self.new ≡ self.old) }
+    {
+        let from = match self.key(id) {
+            Some(key) => key.clone()?,
+            None => return Ok(false),
+        };
+        if self.get(&to).is_some() {
+            return Err(TreeFault::Taken);
+        }
+        self.move_within(alloc, id, &from, &to)?;
+        Ok(true)
+    }
+
+    // The rows within the key of an id are moved to another key, which isn't there.
+    fn move_within(
+        &mut self,
+        alloc: Global,
+        id: u32,
+        from: &ItemKey,
+        to: &ItemKey,
+    ) -> Result<(), AllocError>
+        requires live { option_map (λ r. r.key) (row_of self.old id) ≡ Some from.now }
+        requires absent { row_at self.old to.now ≡ None }
+        requires folder { HasFolder self.old to.now }
+        requires apart { is_within from.now to.now ≡ false }
+        requires keys { StayKeys self.old from.now to.now }
+        ensures moved { OnOk result (self.new ≡ map (moved_row from.now to.now) self.old) }
+        ensures unchanged { OnErr result (self.new ≡ self.old) }
+    {
+        from.rules();
+        to.rules();
+        let mut ids = Vec::new(alloc);
+        let mut keys = Vec::new(alloc);
+        self.find_within(alloc, id, from, to, &mut ids, &mut keys)?;
+        let folders = (self.folder(from), self.folder(to));
+        shift_both(
+            &mut self.children,
+            &mut self.repos,
+            alloc,
+            folders,
+            id,
+            from.repo.as_str(),
+            to.repo.as_str(),
+            &ids,
+        )?;
+        rekey_all(&mut self.slots, &mut self.order, &ids, keys);
+        Ok(())
+    }
+
+    // The ids of the rows within the key of an id, and the keys that they get where it becomes another: its own first, and
+    // behind it what lies in each.
+    fn find_within(
+        &self,
+        alloc: Global,
+        id: u32,
+        from: &ItemKey,
+        to: &ItemKey,
+        found: &mut Vec<u32>,
+        keys: &mut Vec<ItemKey>,
+    ) -> Result<(), AllocError>
+        requires no_ids { found.old.items ≡ [] }
+        requires no_keys { keys.old.items ≡ [] }
+        requires live { option_map (λ r. r.key) (row_of self.now id) ≡ Some from.now }
+        requires keys { StayKeys self.now from.now to.now }
+        ensures ids { OnOk result (AreWithin self.now from.now found.new.items) }
+        ensures keys { OnOk result (keys.new.items ≡ map (key_for self.now from.now to.now) found.new.items) }
+    {
+        self.rules();
+        from.rules();
+        to.rules();
+        let whole = from.whole(alloc)?;
+        let to_whole = to.whole(alloc)?;
+        found.push(id)?;
+        keys.push(to.clone()?)?;
+        let mut next = 0usize;
+        'folders: while next < found.len() {
+            let Some(folder) = self.key(found[next]) else {
+                unreachable!();
+            };
+            self.push_inside(
+                alloc,
+                folder,
+                from,
+                whole.as_str(),
+                to,
+                to_whole.as_str(),
+                found,
+                keys,
+            )?;
+            next += 1;
+        }
+        Ok(())
+    }
+
+    // What lies in a folder is found, with the keys that it gets.
+    fn push_inside(
+        &self,
+        alloc: Global,
+        folder: &ItemKey,
+        from: &ItemKey,
+        whole: &str,
+        to: &ItemKey,
+        to_whole: &str,
+        found: &mut Vec<u32>,
+        keys: &mut Vec<ItemKey>,
+    ) -> Result<(), AllocError>
+        requires within { is_within from.now folder.now ≡ true }
+        requires whole { whole.now ≡ whole_of from.now }
+        requires to_whole { to_whole.now ≡ whole_of to.now }
+        requires keys { StayKeys self.now from.now to.now }
+        ensures ids { OnOk result (found.new.items ≡ found.old.items ++ ids (filter (lies_in folder.now) self.now)) }
+        ensures keys { OnOk result (keys.new.items ≡ keys.old.items ++ map (key_for self.now from.now to.now) (ids (filter (lies_in folder.now) self.now))) }
+    {
+        self.rules();
+        from.rules();
+        for child in self.children(folder) {
+            let Some(item) = self.key(*child) else {
+                unreachable!();
+            };
+            let Some(key) = moved_key(alloc, item, from, whole, to, to_whole)? else {
+                unreachable!();
+            };
+            found.push(*child)?;
+            keys.push(key)?;
+        }
+        Ok(())
     }
 
     // How many of the folders above a key are there, or where a file stands among them.

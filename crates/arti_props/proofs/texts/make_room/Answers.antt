@@ -21,11 +21,11 @@ returns-in-Some-clause-keeps c =
 pub returns-clause-ids : goal.returns-clause-ids
 returns-clause-ids c =
     let at : get_by_text c.args.lists.now c.args.text.now ≡ None = search rules in
-    same (get_by_text c.args.lists.now) (get_by_text c.insert.new.self) c.args.text.now (Some c.in_ok-new.field-0) (inserted c.args.lists.now c.get_mut.follows.lender-at-none c.insert.new.self c.in_ok-from_str.field-0 c.args.text.now c.in_ok-new.field-0 c.get_mut.follows.holds-at-none c.in_ok-insert.ensures.updates c.in_ok-from_str.ensures.ok)
-    ids_of (c.in_ok-new.ensures.ids ∙ ap ids_of (sym at))
+    same (get_by_text c.args.lists.now) (get_by_text c.insert.new.self) c.args.text.now (Some c.new.result) (inserted c.args.lists.now c.get_mut.follows.lender-at-none c.insert.new.self c.in_ok-from_str.field-0 c.args.text.now c.new.result c.get_mut.follows.holds-at-none c.in_ok-insert.ensures.updates c.in_ok-from_str.ensures.ok)
+    ids_of (c.new.ensures.ids ∙ ap ids_of (sym at))
 
 pub returns-clause-keeps : goal.returns-clause-keeps
 returns-clause-keeps c =
     let at : get_by_text c.args.lists.now c.args.text.now ≡ None = search rules in
-    kept (get_by_text c.args.lists.now) (get_by_text c.insert.new.self) c.args.text.now (Some c.in_ok-new.field-0) (inserted c.args.lists.now c.get_mut.follows.lender-at-none c.insert.new.self c.in_ok-from_str.field-0 c.args.text.now c.in_ok-new.field-0 c.get_mut.follows.holds-at-none c.in_ok-insert.ensures.updates c.in_ok-from_str.ensures.ok)
+    kept (get_by_text c.args.lists.now) (get_by_text c.insert.new.self) c.args.text.now (Some c.new.result) (inserted c.args.lists.now c.get_mut.follows.lender-at-none c.insert.new.self c.in_ok-from_str.field-0 c.args.text.now c.new.result c.get_mut.follows.holds-at-none c.in_ok-insert.ensures.updates c.in_ok-from_str.ensures.ok)
     HasRoom (λ was. absurd (subst HasRoom at was))

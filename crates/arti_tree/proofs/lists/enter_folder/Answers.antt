@@ -1,4 +1,5 @@
-use Rattle.std.proofs.Common.{◌≡◌, ℕ, ◌<◌, List, length, subst, sym, ap, ◌∙◌, cond, rules, Option}
+use Rattle.std.proofs.Common.{◌≡◌, ℕ, ◌<◌, List, length, subst, sym, refl, ap, ◌∙◌, cond, rules, Option}
+use Rattle.arti_tree.proofs.IdLists.{yes_eq}
 use Rattle.arti_tree.specs.Ids.{AscendFrom, Lacks, with_id}
 use Rattle.arti_tree.specs.Slots.{is_it}
 use Rattle.arti_tree.specs.Children.{list_at}
@@ -15,7 +16,7 @@ pub add_id-requires-clause-absent : goal.add_id-requires-clause-absent
 add_id-requires-clause-absent c =
     let lists = c.args.children.now.items in
     let within : c.in-Some.folder < length lists = search rules in
-    subst (λ (l : List ℕ). Lacks l c.args.id) (sym (read lists c.in-Some.folder c.index_mut-list.result.now within c.index_mut-list.ensures.value)) (c.requires.absent c.in-Some.folder)
+    subst (λ (l : List ℕ). Lacks l c.args.id) (sym (read lists c.in-Some.folder c.index_mut-list.result.now within c.index_mut-list.ensures.value)) (c.requires.absent c.in-Some.folder (ap (λ (o : Option ℕ). is_it o c.in-Some.folder) c.in-Some.is ∙ yes_eq c.in-Some.folder c.in-Some.folder refl))
 
 pub returns-in-Err-clause-unchanged : goal.returns-in-Err-clause-unchanged
 returns-in-Err-clause-unchanged c =

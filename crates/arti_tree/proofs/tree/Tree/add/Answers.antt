@@ -144,7 +144,7 @@ invariant_of-self-2 c =
     kept_more t.slots.items c.fill.new.slots.items s id t.all.items t.order.items (items_of t.children.items) (items_of c.enter_both.new.children.items) (list_of t.repos) (list_of c.enter_both.new.repos) inv fresh more
     (λ i. c.fill.ensures.each i ∙ ap (λ (l : List (Option Slot)). cond (eqb i id) (Some s) (at l i)) room)
     (λ i. c.in_ok-enter_both.ensures.in_folder i ∙ ap (λ (l : List ℕ). cond (is_it c.folder-folder.result i) (with_id id l) l) (c.make_list.ensures.same i) ∙ ap (λ (o : Option ℕ). cond (is_it o i) (with_id id (list_at t.children i)) (list_at t.children i)) folder)
-    c.add_ready.new.ids.items c.insert_ready.new.ids.items (c.add_ready.ensures ∙ ap (with_id id) c.make_room.ensures.all) (subst (λ (o : List ℕ). Ordered (with_row (row_with id s) rows) o) (sym order_is) ordered) long
+    c.add_ready.new.ids.items c.insert_ready.new.ids.items (c.add_ready.ensures.items ∙ ap (with_id id) c.make_room.ensures.all) (subst (λ (o : List ℕ). Ordered (with_row (row_with id s) rows) o) (sym order_is) ordered) long
     (λ q. c.in_ok-enter_both.ensures.in_repo q ∙ ap (λ (r : List ℕ). cond (pointwise nat_eq q r) (with_id id (list_of t.repos q)) (list_of t.repos q)) repo)
 
 pub returns-clause-fresh : goal.returns-clause-fresh

@@ -1,0 +1,22 @@
+-- Ids that leave one list for another.
+use Rattle.std.specs.Prelude.{ℕ, Bool, if◌then◌else◌, List, [], ◌∷◌}
+use Rattle.arti_tree.specs.Ids.{Lacks, with_id, without_id}
+
+-- with ids more, one after the other
+abbrev pub with_ids : List ℕ → List ℕ → List ℕ
+with_ids [] list = list
+with_ids (id ∷ ids) list = with_ids ids (with_id id list)
+
+-- without ids
+abbrev pub without_ids : List ℕ → List ℕ → List ℕ
+without_ids [] list = list
+without_ids (id ∷ ids) list = without_ids ids (without_id id list)
+
+-- none of the ids is in the list, and they differ
+abbrev pub AreNew : List ℕ → List ℕ → Type 0
+AreNew list [] = Unit {0}
+AreNew list (id ∷ ids) = Lacks list id × AreNew (with_id id list) ids
+
+-- a list that ids leave or enter, or both or neither
+abbrev pub shifted : Bool → Bool → List ℕ → List ℕ → List ℕ
+shifted was will ids list = if was then (if will then list else without_ids ids list) else (if will then with_ids ids list else list)
