@@ -1,20 +1,20 @@
 -- The rows within a key, found level by level from the row of the key on.
-use Rattle.std.proofs.Common.{◌≡◌, ◌≢◌, ℕ, ◌+◌, ◌-◌, ◌<◌, ◌≤◌, ◌⊎◌, ⊎_elim, inl, inr, zero, suc, Bool, true, false, cond, eqb, List, [], ◌∷◌, ◌++◌, length, get_or, take, drop, Option, Some, None, option_map, refl, sym, ap, ◌∙◌, subst, arith, length-append}
+use Rattle.std.proofs.Common.{◌≡◌, ◌≢◌, ℕ, ◌+◌, ◌<◌, ◌≤◌, ⊎_elim, zero, suc, Bool, true, false, cond, eqb, List, [], ◌∷◌, ◌++◌, length, get_or, take, Option, Some, None, option_map, refl, sym, ap, ◌∙◌, subst, arith, length-append}
 use Rattle.std.specs.Prelude.{◌||◌, ◌==◌}
 use Rattle.std.specs.Option.{option_map_or}
-use Rattle.std.specs.List.{filter, list_any}
+use Rattle.std.specs.List.{filter}
 use Rattle.std.proofs.Math.Seq.{take-length}
 use Rattle.std.proofs.lemmas.Bool.{eqb-true, eqb-false}
 use Rattle.std.proofs.lemmas.List.{length-map}
 use Rattle.arti_rows.specs.Key.{Key, whole_of}
 use Rattle.arti_rows.specs.Names.{IsKey}
-use Rattle.arti_tree.specs.Rows.{Row, ids, row_of, has_folder, folder_of, same_key, lies_in, IsLive, IsTree, RowsFrom}
+use Rattle.arti_tree.specs.Rows.{Row, ids, row_of, folder_of, same_key, lies_in, IsLive, IsTree, RowsFrom}
 use Rattle.arti_tree.specs.Renames.{is_within, has, Once, AreWithin}
 use Rattle.arti_tree.proofs.IdLists.{yes_eq, no_eq}
 use Rattle.arti_tree.proofs.RowLists.{filtered_ascend}
 use Rattle.arti_tree.proofs.Rises.{found_live, found_passes, is_false, same_from_true}
 use Rattle.arti_tree.proofs.Folders.{lying, lies}
-use Rattle.arti_tree.proofs.Above.{shorter, folder_key, folder_whole}
+use Rattle.arti_tree.proofs.Above.{shorter, folder_key}
 use Rattle.arti_tree.proofs.Beneath.{or_parts, or_right, eq_or}
 use Rattle.arti_tree.proofs.Under.{Under, Within, Path, within_cases, within_is, within_itself, under_within, within_folder, path_under, folder_in}
 use Rattle.arti_tree.proofs.Members.{once, has_rows, first_has, false_true}

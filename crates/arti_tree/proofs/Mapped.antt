@@ -1,14 +1,12 @@
 -- Rows of which each changes by itself and keeps its id.
-use Rattle.std.proofs.Common.{◌≡◌, ◌≢◌, ℕ, ◌+◌, ◌<◌, ◌≤◌, ◌⊎◌, ⊎_elim, inl, inr, zero, suc, Bool, true, false, cond, eqb, List, [], ◌∷◌, length, Option, Some, None, option_map, refl, sym, ap, ◌∙◌, subst, arith}
-use Rattle.std.specs.Prelude.{map, ◌==◌}
-use Rattle.std.specs.List.{filter, find}
-use Rattle.std.proofs.lemmas.Bool.{eqb-true, eqb-false}
+use Rattle.std.proofs.Common.{◌≡◌, ℕ, ◌+◌, ◌≤◌, Bool, true, false, cond, eqb, List, [], ◌∷◌, Option, Some, None, option_map, refl, sym, ap, ◌∙◌, subst, arith}
+use Rattle.std.specs.Prelude.{map}
+use Rattle.std.specs.List.{find}
 use Rattle.arti_rows.specs.Key.{Key}
 use Rattle.arti_tree.specs.Rows.{Row, ids, row_of, row_at, same_key, IsLive, RowsFrom}
 use Rattle.arti_tree.specs.Renames.{Differ}
 use Rattle.arti_tree.proofs.IdLists.{yes_eq, no_eq}
-use Rattle.arti_tree.proofs.Rises.{found_live, found_least, found_passes, same_from_true, same_itself, is_false, not_same}
-use Rattle.arti_tree.proofs.Beneath.{eq_or}
+use Rattle.arti_tree.proofs.Rises.{found_live, found_least, same_from_true, same_itself}
 
 pub some_rows : (x y : Row) → Some x ≡ Some y → x ≡ y
 some_rows x y e = cc

@@ -1,19 +1,17 @@
 -- The rows of a tree as one of them gets another key, and those beneath it with it.
-use Rattle.std.proofs.Common.{◌≡◌, ◌≢◌, ℕ, ◌+◌, ◌<◌, ◌≤◌, ◌^◌, ◌⊎◌, ⊎_elim, inl, inr, zero, suc, Bool, true, false, cond, eqb, List, [], ◌∷◌, ◌++◌, length, Option, Some, None, option_map, refl, sym, ap, ◌∙◌, subst, arith, append_assoc, append-nil}
-use Rattle.std.specs.Prelude.{map, ◌==◌, ◌||◌, ◌&&◌}
-use Rattle.std.specs.List.{filter, find, list_any}
-use Rattle.std.proofs.lemmas.Bool.{eqb-true}
+use Rattle.std.proofs.Common.{◌≡◌, ◌≢◌, ℕ, ◌+◌, ◌<◌, ◌^◌, ◌⊎◌, ⊎_elim, inl, inr, Bool, true, false, cond, List, ◌∷◌, ◌++◌, length, Option, Some, None, refl, sym, ap, ◌∙◌, subst, arith}
+use Rattle.std.specs.Prelude.{map}
 use Rattle.std.proofs.lemmas.List.{length-map, append_cancel_left}
-use Rattle.arti_rows.specs.Key.{Key, key_of, whole_of, folders_above}
-use Rattle.arti_rows.specs.Names.{IsKey, key_fault}
-use Rattle.arti_tree.specs.Rows.{Row, ids, row_of, row_at, same_key, has_folder, folder_of, lies_in, lies_beneath, IsFolder, HasFolder, IsLive, IsTree}
-use Rattle.arti_tree.specs.Renames.{is_within, moved, moved_whole, moved_row, may_follow, StayKeys, Differ}
+use Rattle.arti_rows.specs.Key.{Key, key_of, whole_of}
+use Rattle.arti_rows.specs.Names.{IsKey}
+use Rattle.arti_tree.specs.Rows.{Row, row_at, same_key, has_folder, folder_of, lies_in, IsFolder, HasFolder, IsLive, IsTree}
+use Rattle.arti_tree.specs.Renames.{is_within, moved, moved_whole, moved_row, StayKeys}
 use Rattle.arti_tree.proofs.Rises.{found_live, found_passes, same_from_true, same_itself, is_false}
 use Rattle.arti_tree.proofs.Folders.{none_in, none_passes}
-use Rattle.arti_tree.proofs.Above.{joined, folder_whole, folder_key, plain}
+use Rattle.arti_tree.proofs.Above.{folder_whole, folder_key}
 use Rattle.arti_tree.proofs.Beneath.{eq_or, beneath_in}
-use Rattle.arti_tree.proofs.Under.{Under, Path, Within, within_cases, within_is, within_itself, under_within, under_beneath, whole_moved, whole_made, key_made, moved_top, moved_parts, path_under, under_path, folder_within, within_folder, folder_in}
-use Rattle.arti_tree.proofs.Mapped.{ids_map, rows_from_map, row_of_map, live_map, was, at_new, differ_new, same_new, one_id, one_key, both_ways}
+use Rattle.arti_tree.proofs.Under.{Under, Path, Within, within_cases, within_is, within_itself, under_within, under_beneath, whole_moved, whole_made, key_made, moved_top, moved_parts, path_under, within_folder, folder_in}
+use Rattle.arti_tree.proofs.Mapped.{rows_from_map, was, at_new, differ_new, same_new, one_key}
 
 none_some : {o : Option Row} {x : Row} → o ≡ None → o ≡ Some x → ⊥
 none_some {o} {x} n s = let e : None ≡ Some x = sym n ∙ s in cc

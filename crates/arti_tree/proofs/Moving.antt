@@ -1,31 +1,31 @@
 -- The kept lists as a row gets another key, and those beneath it with it.
-use Rattle.std.proofs.Common.{◌≡◌, ◌≢◌, ℕ, ◌+◌, ◌<◌, ◌≤◌, ◌⊎◌, ⊎_elim, zero, suc, Bool, true, false, cond, eqb, List, [], ◌∷◌, length, get_or, Option, Some, None, option_map, refl, sym, ap, ◌∙◌, subst, arith}
-use Rattle.std.specs.Prelude.{map, ◌==◌, ◌||◌, ◌&&◌, not, nat_eq, IsSome}
+use Rattle.std.proofs.Common.{◌≡◌, ◌≢◌, ℕ, ◌≤◌, ⊎_elim, Bool, true, false, cond, eqb, List, [], ◌∷◌, length, get_or, Option, Some, None, option_map, refl, sym, ap, ◌∙◌, subst}
+use Rattle.std.specs.Prelude.{map, ◌||◌, ◌&&◌, not, nat_eq, IsSome}
 use Rattle.std.specs.Option.{option_map_or}
-use Rattle.std.specs.List.{filter, find}
+use Rattle.std.specs.List.{filter}
 use Rattle.std.specs.Cmp.Lexicographic.{pointwise}
 use Rattle.std.proofs.lemmas.Bool.{eqb-true, eqb-false}
-use Rattle.arti_rows.specs.Key.{Key, key_of, whole_of}
+use Rattle.arti_rows.specs.Key.{Key}
 use Rattle.arti_rows.specs.Names.{IsKey}
 use Rattle.arti_tree.specs.declared.slot.Slot.{Slot}
-use Rattle.arti_tree.specs.Ids.{AscendFrom, Lacks}
+use Rattle.arti_tree.specs.Ids.{AscendFrom}
 use Rattle.arti_tree.specs.Rows.{Row, ids, row_of, row_at, same_key, has_folder, folder_of, folder_id, lies_in, is_of, HasFolder, IsLive, IsTree, RowsFrom}
 use Rattle.arti_tree.specs.Slots.{at, row_with, live, is_it, no_key}
 use Rattle.arti_tree.specs.Kept.{inside, Ordered, Kept}
-use Rattle.arti_tree.specs.Renames.{is_within, moved, moved_whole, moved_row, has, AreWithin, key_for, rekeyed_all, StayKeys, CanRekey}
-use Rattle.arti_tree.specs.Shifts.{shifted, with_ids, without_ids, AreNew}
-use Rattle.arti_tree.proofs.IdLists.{yes_eq, no_eq}
+use Rattle.arti_tree.specs.Renames.{is_within, moved, moved_row, has, AreWithin, key_for, rekeyed_all, StayKeys, CanRekey}
+use Rattle.arti_tree.specs.Shifts.{shifted, AreNew}
+use Rattle.arti_tree.proofs.IdLists.{no_eq}
 use Rattle.arti_tree.proofs.RowLists.{filtered_ascend}
-use Rattle.arti_tree.proofs.Rises.{found_live, found_passes, same_from_true, is_false}
+use Rattle.arti_tree.proofs.Rises.{found_live, found_passes, is_false}
 use Rattle.arti_tree.proofs.Folders.{lies_by_id}
 use Rattle.arti_tree.proofs.Lives.{row_of_live}
 use Rattle.arti_tree.proofs.Looks.{live_in}
 use Rattle.arti_tree.proofs.Beneath.{eq_or}
-use Rattle.arti_tree.proofs.Under.{path_under, within_cases, within_itself, within_is}
-use Rattle.arti_tree.proofs.Members.{same_members, has_with_ids, has_without_ids, without_ids_ascend, with_ids_ascend, lacks_from, are_new, has_rows, below_first}
+use Rattle.arti_tree.proofs.Under.{path_under, within_cases, within_is}
+use Rattle.arti_tree.proofs.Members.{same_members, has_with_ids, has_without_ids, without_ids_ascend, with_ids_ascend, lacks_from, are_new, has_rows}
 use Rattle.arti_tree.proofs.Mapped.{ids_map, row_of_map, map_same, one_id, one_key}
 use Rattle.arti_tree.proofs.Moved.{keeps_id, moved_yes, moved_no, new_absent, apart, same_keys, Lying, lying, FolderRow, to_folder, to_stays, top_moved, tree_moved}
-use Rattle.arti_tree.proofs.Rekeys.{with_new, rekeyed_all_is, can_rekey, Distinct, Apart}
+use Rattle.arti_tree.proofs.Rekeys.{with_new, rekeyed_all_is, can_rekey}
 use Rattle.arti_tree.proofs.Finding.{Found, found_by}
 
 -- whether a shifted list has an id

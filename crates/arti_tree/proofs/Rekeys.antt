@@ -1,12 +1,11 @@
 -- Rows that get other keys one after the other, and their places in the default order.
-use Rattle.std.proofs.Common.{◌≡◌, ◌≢◌, ℕ, ◌+◌, ◌-◌, ◌<◌, ◌≤◌, ◌⊎◌, ⊎_elim, inl, inr, zero, suc, Bool, true, false, cond, eqb, List, [], ◌∷◌, length, get_or, set, take, drop, Option, Some, None, option_map, refl, sym, ap, ◌∙◌, subst, arith, Less, Equal, Greater}
+use Rattle.std.proofs.Common.{◌≡◌, ◌≢◌, ℕ, ◌+◌, ◌<◌, ◌≤◌, ◌⊎◌, ⊎_elim, inl, inr, zero, suc, Bool, true, false, cond, eqb, List, [], ◌∷◌, length, get_or, set, take, drop, Option, Some, None, option_map, refl, sym, ap, ◌∙◌, subst, arith, Less, Equal, Greater}
 use Rattle.std.specs.Prelude.{map, ◌==◌, ◌||◌, All, IsSome}
-use Rattle.std.specs.List.{filter, find, count_by, insert, remove}
+use Rattle.std.specs.List.{count_by, insert, remove}
 use Rattle.std.specs.Ordering.{is_eq}
 use Rattle.std.proofs.lemmas.Bool.{eqb-true, eqb-false, cases_lt}
 use Rattle.std.proofs.lemmas.List.{length-map, length-drop}
-use Rattle.std.proofs.lemmas.List.Elements.{All-append, All-cons, All-take, All-drop, All-weaker}
-use Rattle.std.proofs.lemmas.List.Edits.{length-remove}
+use Rattle.std.proofs.lemmas.List.Elements.{All-append, All-cons, All-take, All-drop}
 use Rattle.std.proofs.lemmas.List.Sums.{sum_by-insert, sum_by-remove, sum_by-cons}
 use Rattle.arti_rows.specs.Key.{Key, key_cmp}
 use Rattle.arti_tree.specs.declared.slot.Slot.{Slot}
@@ -18,13 +17,12 @@ use Rattle.arti_tree.proofs.IdLists.{yes_eq, no_eq, drop_next}
 use Rattle.arti_tree.proofs.Lives.{live_from, row_of_live}
 use Rattle.arti_tree.proofs.Order.{to_less}
 use Rattle.arti_tree.proofs.Rises.{found_live, found_passes, others_differ, rising_insert, rising_remove, same_from_true, same_from_tie, none_counted, counted}
-use Rattle.arti_tree.proofs.Folders.{none_passes}
 use Rattle.arti_tree.proofs.Looks.{no_row, key_in, before_in, behind_in}
 use Rattle.arti_tree.proofs.Growing.{ids_insert}
 use Rattle.arti_tree.proofs.Shrinking.{ids_remove}
 use Rattle.arti_tree.proofs.Beneath.{eq_or}
 use Rattle.arti_tree.proofs.Members.{first_has}
-use Rattle.arti_tree.proofs.Mapped.{find_map, row_of_map, live_map, rows_from_map, differ_new, one_id, one_key, was, some_rows}
+use Rattle.arti_tree.proofs.Mapped.{row_of_map, live_map, rows_from_map, differ_new, one_id, one_key, was, some_rows}
 
 row_id_by : (b : Bool) (id : ℕ) (key : Key) (r : Row) → (cond b (record { id = r.id; key = key; is_file = r.is_file }) r).id ≡ r.id
 row_id_by true id key r = refl

@@ -1,21 +1,18 @@
 -- What a tree has to show as a row of it gets another key.
-use Rattle.std.proofs.Common.{◌≡◌, ◌≢◌, ℕ, ◌+◌, ◌<◌, ◌≤◌, Bool, true, false, cond, eqb, List, [], ◌∷◌, length, get_or, Option, Some, None, option_map, refl, sym, ap, ◌∙◌, subst, arith}
+use Rattle.std.proofs.Common.{◌≡◌, ℕ, ◌<◌, ◌≤◌, false, List, [], ◌∷◌, length, get_or, Option, Some, None, option_map, refl, sym, ap, ◌∙◌, subst, arith}
 use Rattle.std.specs.Prelude.{map, nat_eq, IfSome}
 use Rattle.std.specs.Option.{option_map_or}
-use Rattle.std.specs.List.{filter}
 use Rattle.std.specs.Cmp.Lexicographic.{pointwise}
-use Rattle.std.proofs.lemmas.Bool.{eqb-true}
 use Rattle.std.proofs.lemmas.List.{length-map}
 use Rattle.arti_rows.specs.Key.{Key}
 use Rattle.arti_rows.specs.Names.{IsKey}
 use Rattle.arti_tree.specs.declared.slot.Slot.{Slot}
-use Rattle.arti_tree.specs.Ids.{AscendFrom, Lacks}
-use Rattle.arti_tree.specs.Rows.{Row, ids, row_of, row_at, lies_in, is_of, folder_id, HasFolder, IsLive}
+use Rattle.arti_tree.specs.Ids.{Lacks}
+use Rattle.arti_tree.specs.Rows.{Row, row_of, row_at, lies_in, folder_id, HasFolder}
 use Rattle.arti_tree.specs.Slots.{at, row_with, live, is_it}
 use Rattle.arti_tree.specs.Kept.{inside, Ordered, Kept}
-use Rattle.arti_tree.specs.Renames.{is_within, moved, moved_row, has, AreWithin, key_for, rekeyed_all, StayKeys, CanRekey}
+use Rattle.arti_tree.specs.Renames.{is_within, moved_row, has, AreWithin, key_for, rekeyed_all, StayKeys, CanRekey}
 use Rattle.arti_tree.specs.Shifts.{shifted, AreNew}
-use Rattle.arti_tree.proofs.Rises.{found_live, found_passes}
 use Rattle.arti_tree.proofs.Folders.{lies_by_id}
 use Rattle.arti_tree.proofs.Looks.{live_in}
 use Rattle.arti_tree.proofs.Adding.{folder_within, if_some_more}

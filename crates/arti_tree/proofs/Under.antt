@@ -1,20 +1,18 @@
 -- What lies beneath a key, by the texts of the two, and the key that it gets.
-use Rattle.std.proofs.Common.{◌≡◌, ◌≢◌, ℕ, ◌+◌, ◌-◌, ◌<◌, ◌≤◌, ◌⊎◌, ⊎_elim, inl, inr, zero, suc, Bool, true, false, cond, eqb, List, [], ◌∷◌, ◌++◌, length, get_or, take, drop, Option, Some, None, refl, sym, ap, ◌∙◌, subst, arith, append_assoc, append-nil, length-append}
+use Rattle.std.proofs.Common.{◌≡◌, ℕ, ◌+◌, ◌-◌, ◌≤◌, ◌⊎◌, ⊎_elim, inl, inr, zero, suc, Bool, true, false, cond, eqb, List, [], ◌∷◌, ◌++◌, length, get_or, drop, Some, None, refl, sym, ap, ◌∙◌, arith, append_assoc, append-nil, length-append}
 use Rattle.std.specs.Prelude.{◌||◌, ◌==◌, map, nat_eq, not}
 use Rattle.std.specs.List.{list_any}
 use Rattle.std.specs.Cmp.Lexicographic.{pointwise, bytes_decides}
-use Rattle.std.proofs.Math.Seq.{take-append_seam, drop-append_seam, drop-length}
+use Rattle.std.proofs.Math.Seq.{take-append_seam, drop-append_seam}
 use Rattle.std.proofs.lemmas.Bool.{eqb-true}
-use Rattle.std.proofs.lemmas.List.{append_cancel_left}
 use Rattle.arti_rows.specs.Key.{Key, key_of, whole_of, path_of, name_of, fronts, folders_above, root_path}
 use Rattle.arti_rows.specs.Names.{IsKey, is_repo_key, path_fault, key_fault}
-use Rattle.arti_rows.specs.declared.fault.KeyFault.{KeyFault}
 use Rattle.arti_rows.specs.declared.fault.KeyFault.TheVariants.{BadName}
 use Rattle.arti_tree.specs.Rows.{same_key, has_folder, folder_of}
 use Rattle.arti_tree.specs.Searched.{key}
-use Rattle.arti_tree.specs.Renames.{is_within, moved, moved_whole, may_follow}
+use Rattle.arti_tree.specs.Renames.{is_within, moved_whole, may_follow}
 use Rattle.arti_tree.proofs.IdLists.{yes_eq}
-use Rattle.arti_tree.proofs.Rises.{same_from_true, same_itself, is_false}
+use Rattle.arti_tree.proofs.Rises.{same_from_true, same_itself}
 use Rattle.arti_tree.proofs.Fronts.{front_good}
 use Rattle.arti_tree.proofs.Cuts.{cut_at, whole_of-key_of}
 use Rattle.arti_tree.proofs.Above.{HasNone, rejoins, good, plain, joined, at_root, folder_whole}

@@ -1,4 +1,4 @@
-use Rattle.std.proofs.Common.{◌≡◌, ℕ, ◌+◌, ◌<◌, List, ◌∷◌, length, get_or, drop, sym, ap, ◌∙◌, subst, arith}
+use Rattle.std.proofs.Common.{◌≡◌, ℕ, ◌+◌, List, ◌∷◌, get_or, drop, sym, ap, ◌∙◌, subst, arith}
 use Rattle.arti_tree.specs.Ids.{AscendFrom, with_id}
 use Rattle.arti_tree.specs.Shifts.{AreNew, with_ids}
 use Rattle.arti_tree.proofs.IdLists.{drop_next, with_ascends}

@@ -1,4 +1,4 @@
-use Rattle.std.proofs.Common.{◌≡◌, ℕ, ◌+◌, ◌<◌, List, ◌∷◌, length, get_or, drop, sym, ap, ◌∙◌, subst}
+use Rattle.std.proofs.Common.{◌≡◌, ℕ, ◌+◌, List, ◌∷◌, get_or, drop, sym, ap, ◌∙◌, subst}
 use Rattle.arti_tree.specs.Ids.{AscendFrom, without_id}
 use Rattle.arti_tree.specs.Shifts.{without_ids}
 use Rattle.arti_tree.proofs.IdLists.{drop_next}

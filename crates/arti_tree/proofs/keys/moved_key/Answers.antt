@@ -1,5 +1,4 @@
-use Rattle.std.proofs.Common.{◌≡◌, ◌++◌, ◌∷◌, List, ℕ, Bool, true, false, cond, Option, Some, None, refl, sym, ap, ◌∙◌, subst, rules, ⊎_elim}
-use Rattle.std.proofs.Common.{◌⊎◌}
+use Rattle.std.proofs.Common.{◌≡◌, ◌++◌, List, ℕ, Bool, true, false, cond, Some, None, refl, sym, ap, ◌∙◌, subst, rules, ⊎_elim}
 use Rattle.arti_rows.specs.Key.{Key, key_of, whole_of}
 use Rattle.arti_rows.specs.Names.{IsKey, key_fault}
 use Rattle.arti_tree.specs.Searched.{key}
@@ -7,7 +6,7 @@ use Rattle.arti_tree.proofs.Folders.{and_parts}
 use Rattle.std.specs.Prelude.{◌&&◌, nat_eq}
 use Rattle.std.specs.Cmp.Lexicographic.{pointwise, bytes_decides}
 use Rattle.arti_tree.specs.Renames.{is_within, moved, moved_whole, may_follow}
-use Rattle.arti_tree.proofs.Rises.{is_false, same_from_true, same_itself}
+use Rattle.arti_tree.proofs.Rises.{is_false}
 use Rattle.arti_tree.proofs.Under.{Under, Path, under_path, under_within, path_under, moved_parts, moved_top, within_itself, within_cases, key_made}
 use Rattle.arti_tree.proofs.keys.moved_key.Goals as goal
 

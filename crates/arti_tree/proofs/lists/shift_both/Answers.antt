@@ -1,7 +1,7 @@
-use Rattle.std.proofs.Common.{◌≡◌, ◌≢◌, ℕ, List, Option, rules}
+use Rattle.std.proofs.Common.{◌≢◌, ℕ, Option, rules}
 use Rattle.arti_tree.specs.Slots.{is_it}
 use Rattle.arti_tree.specs.Children.{list_at}
-use Rattle.arti_tree.proofs.Shifting.{one_only, enters, backs, shift_is}
+use Rattle.arti_tree.proofs.Shifting.{one_only, enters, backs}
 use Rattle.arti_tree.proofs.lists.shift_both.Goals as goal
 
 pub leave_folder-requires-clause-ascend : goal.leave_folder-requires-clause-ascend

@@ -9,7 +9,7 @@ use Rattle.arti_tree.specs.Renames.{Differ, rekeyed}
 use Rattle.arti_tree.specs.Searched.{key, AllLive, RisingAt}
 use Rattle.arti_tree.proofs.Along.{to_both, from_both}
 use Rattle.arti_tree.proofs.Lives.{live_from}
-use Rattle.arti_tree.proofs.Looks.{no_row, live_in, live_in_order, rising_in, before_in, behind_in}
+use Rattle.arti_tree.proofs.Looks.{live_in, live_in_order, rising_in, before_in, behind_in}
 use Rattle.arti_tree.proofs.Rekeys.{missing_in, placed, tied_there, differ_rekeyed, gap_within, left_is, left_live, left_rising, order_rekeyed}
 use Rattle.arti_tree.proofs.rekeying.rekey.Goals as goal
 

@@ -1,4 +1,4 @@
-use Rattle.std.proofs.Common.{◌≡◌, ℕ, ◌<◌, ◌∷◌, List, length, get_or, rules}
+use Rattle.std.proofs.Common.{◌≡◌, ◌∷◌, get_or, rules}
 use Rattle.std.specs.Vec.Iter.{into_iter_items}
 use Rattle.arti_tree.specs.Slots.{live}
 use Rattle.arti_tree.proofs.Rekeys.{more_ids, first_one, some_slot}

@@ -1,4 +1,4 @@
-use Rattle.std.proofs.Common.{◌≡◌, ℕ, ◌+◌, List, Option, Some, None, option_map, sym, ap, ◌∙◌, arith}
+use Rattle.std.proofs.Common.{◌≡◌, ◌+◌, List, Option, Some, None, option_map, sym, ap, ◌∙◌, arith}
 use Rattle.arti_tree.specs.declared.slot.Slot.{Slot}
 use Rattle.arti_tree.specs.Renames.{rekeyed}
 use Rattle.arti_tree.specs.Slots.{at, live, row_with}

@@ -1,6 +1,5 @@
-use Rattle.std.proofs.Common.{◌≡◌, ◌++◌, ℕ, ◌<◌, ◌≤◌, Bool, true, List, length, get_or, Option, Some, None, option_map, sym, ap, ◌∙◌, subst, arith, rules, below_more}
+use Rattle.std.proofs.Common.{◌≡◌, ℕ, ◌≤◌, true, List, length, get_or, Option, Some, option_map, ap, ◌∙◌, arith, rules, below_more}
 use Rattle.arti_rows.specs.Key.{Key, whole_of}
-use Rattle.arti_rows.specs.Names.{key_fault}
 use Rattle.arti_tree.specs.Rows.{Row, ids, row_of}
 use Rattle.arti_tree.proofs.Finding.{has_id, place_of_id}
 use Rattle.arti_tree.proofs.tests.all_stay.Goals as goal

@@ -1,5 +1,4 @@
 use Rattle.std.proofs.Common.{◌≡◌, ℕ, ◌<◌, get_or, false}
-use Rattle.arti_rows.specs.Key.{Key}
 use Rattle.arti_tree.specs.Rows.{same_key}
 use Rattle.arti_tree.proofs.tests.is_among.Given as goal
 

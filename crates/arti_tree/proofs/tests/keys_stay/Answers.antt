@@ -1,4 +1,4 @@
-use Rattle.std.proofs.Common.{◌≡◌, ◌++◌, ℕ, Bool, true, List, Result, Ok, Err, None, sym, ap, ◌∙◌, subst, rules}
+use Rattle.std.proofs.Common.{◌≡◌, ◌++◌, ℕ, Bool, true, List, Result, Ok, Err, None, sym, ap, ◌∙◌, rules}
 use Rattle.std.specs.Prelude.{IfOk}
 use Rattle.arti_rows.specs.Key.{Key, whole_of}
 use Rattle.arti_rows.specs.Names.{key_fault}

@@ -1,4 +1,4 @@
-use Rattle.std.proofs.Common.{◌≡◌, ℕ, ◌+◌, ◌-◌, ◌<◌, ◌≤◌, List, [], ◌∷◌, ◌++◌, length, get_or, Option, Some, None, option_map, refl, sym, ap, ◌∙◌, subst, arith, rules}
+use Rattle.std.proofs.Common.{◌≡◌, ℕ, ◌+◌, ◌-◌, ◌<◌, ◌≤◌, List, [], ◌∷◌, ◌++◌, length, get_or, Option, Some, None, option_map, sym, ap, ◌∙◌, subst, arith, rules}
 use Rattle.std.specs.Prelude.{map}
 use Rattle.std.specs.Option.{option_map_or}
 use Rattle.std.specs.List.{filter}
@@ -9,7 +9,7 @@ use Rattle.arti_tree.specs.Slots.{no_key}
 use Rattle.arti_tree.specs.Renames.{is_within, moved, key_for}
 use Rattle.arti_tree.proofs.Moved.{moved_yes}
 use Rattle.arti_tree.proofs.Under.{within_itself, moved_top}
-use Rattle.arti_tree.proofs.Finding.{FindsWithin, Top, top_of, start_of, next_of, few_of, all_of, row_at_place}
+use Rattle.arti_tree.proofs.Finding.{FindsWithin, top_of, start_of, next_of, few_of, all_of, row_at_place}
 use Rattle.arti_tree.proofs.tree.Tree.find_within.Goals as goal
 
 key_seen : (k : Key) (o : Option Row) (r : Row) → Some k ≡ option_map (λ (x : Row). x.key) o → o ≡ Some r → k ≡ r.key

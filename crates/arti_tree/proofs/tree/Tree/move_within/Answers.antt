@@ -1,9 +1,7 @@
-use Rattle.std.proofs.Common.{◌≡◌, ℕ, ◌<◌, ◌≤◌, List, length, Option, Some, None, option_map, refl, sym, ap, ◌∙◌, subst, arith, rules, Vec, Global}
+use Rattle.std.proofs.Common.{◌≡◌, ℕ, List, length, refl, sym, ap, ◌∙◌, subst, arith, rules, Vec, Global}
 use Rattle.std.specs.Prelude.{map, nat_eq}
 use Rattle.std.specs.Cmp.Lexicographic.{pointwise}
 use Rattle.std.proofs.lemmas.List.{length-map}
-use Rattle.arti_rows.specs.Key.{Key}
-use Rattle.arti_tree.specs.Rows.{Row}
 use Rattle.arti_tree.specs.Slots.{live}
 use Rattle.arti_tree.specs.Renames.{moved_row, rekeyed_all, CanRekey}
 use Rattle.arti_tree.specs.Repos.{list_of}

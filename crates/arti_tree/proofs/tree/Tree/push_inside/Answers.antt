@@ -1,15 +1,15 @@
-use Rattle.std.proofs.Common.{◌≡◌, ℕ, ◌+◌, ◌<◌, Bool, true, false, cond, List, [], ◌∷◌, ◌++◌, length, get_or, drop, Option, Some, None, option_map, refl, sym, ap, ◌∙◌, subst, arith, rules, append_assoc, append-nil}
+use Rattle.std.proofs.Common.{◌≡◌, ℕ, ◌+◌, Bool, true, false, cond, List, [], ◌∷◌, ◌++◌, get_or, drop, Option, Some, None, option_map, sym, ap, ◌∙◌, subst, rules, append_assoc}
 use Rattle.std.specs.Prelude.{map}
 use Rattle.std.specs.List.{filter}
 use Rattle.arti_rows.specs.Key.{Key}
-use Rattle.arti_rows.specs.Names.{IsKey, key_fault}
-use Rattle.arti_tree.specs.Rows.{Row, ids, row_of, lies_in, IsTree}
+use Rattle.arti_rows.specs.Names.{key_fault}
+use Rattle.arti_tree.specs.Rows.{Row, ids, row_of, lies_in}
 use Rattle.arti_tree.specs.Slots.{no_key}
-use Rattle.arti_tree.specs.Renames.{is_within, moved, moved_whole, key_for, StayKeys}
+use Rattle.arti_tree.specs.Renames.{is_within, moved, moved_whole, key_for}
 use Rattle.std.specs.Option.{option_map_or}
 use Rattle.arti_tree.proofs.IdLists.{drop_next}
 use Rattle.arti_tree.proofs.Under.{within_is}
-use Rattle.arti_tree.proofs.Finding.{Member, member, lies_within}
+use Rattle.arti_tree.proofs.Finding.{member, lies_within}
 use Rattle.arti_tree.proofs.tree.Tree.push_inside.Goals as goal
 
 key_seen : (k : Key) (o : Option Row) (r : Row) → Some k ≡ option_map (λ (x : Row). x.key) o → o ≡ Some r → k ≡ r.key
