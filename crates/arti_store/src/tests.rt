@@ -9,9 +9,9 @@ use super::*;
 use crate::quiet::Quiet;
 use arti_blobs::{StageFault, Staged};
 use arti_codec::decode;
-use arti_ground::{FaultyGround, Ground, MemoryGround};
+use arti_ground::{Ground, MemoryGround};
 use arti_journal::{Journal, frame};
-use arti_rows::{Change, Edit, FileRef, ItemKey, Limits, Which};
+use arti_rows::{Change, Edit, FileRef, Limits, Which};
 use std::alloc::{AllocError, Global};
 use std::test::Fail;
 
@@ -20,9 +20,7 @@ enum Stop {
     Open(OpenFault),
     Stage(StageFault),
     Commit(CommitFault),
-    Content(ContentFault),
     OtherContent,
-    NoFile,
     Memory,
 }
 
@@ -124,17 +122,6 @@ fn open<G: Ground>(alloc: Global, outside: &mut G, limits: &Limits) -> Result<St
     Store::open(alloc, outside, limits).map_err(|fault| Stop::Open(fault))
 }
 
-// Opens a store, and commits the three first changes.
-fn three<G: Ground>(alloc: Global, outside: &mut G, limits: &Limits) -> Result<Store, Stop>
-    requires { G.tells → ⊥ }
-{
-    let mut store = open(alloc, outside, limits)?;
-    commit(alloc, &mut store, outside, X_ABC, b"abc")?;
-    commit(alloc, &mut store, outside, Y_ABC, b"abc")?;
-    commit(alloc, &mut store, outside, GET_Y, b"abc")?;
-    Ok(store)
-}
-
 fn memory(alloc: Global) -> Result<Quiet<MemoryGround>, AllocError> {
     Ok(Quiet::new(MemoryGround::new(alloc, 200, 4000)?))
 }
@@ -155,83 +142,6 @@ fn limits(journal: u64, blobs: u64) -> Limits {
         Some(limits) => limits,
         None => most,
     }
-}
-
-// The content of the file at a key, or what is wrong with it.
-fn content_at<G: Ground>(
-    alloc: Global,
-    store: &mut Store,
-    outside: &mut G,
-    whole: &str,
-) -> Result<Vec<u8>, Stop>
-    requires { G.tells → ⊥ }
-{
-    let key = ItemKey::new(alloc, "generic-local", whole).map_err(|_| Stop::Memory)?;
-    let file = match store.find(&key) {
-        None => return Err(Stop::NoFile),
-        Some(row) => row.file,
-    };
-    match file {
-        None => Err(Stop::NoFile),
-        Some(file) => read_all(alloc, store, outside, &file),
-    }
-}
-
-fn read_all<G: Ground>(
-    alloc: Global,
-    store: &mut Store,
-    outside: &mut G,
-    file: &FileRef,
-) -> Result<Vec<u8>, Stop>
-    requires quiet { G.tells → ⊥ }
-    requires kept { Contains store.old.contents.kept file.now }
-{
-    let mut bytes = vec![in alloc; 7u8; 10].map_err(|_| Stop::Memory)?;
-    let n = store
-        .content(outside, file, 0, &mut bytes)
-        .map_err(|fault| Stop::Content(fault))?;
-    bytes.truncate(n);
-    Ok(bytes)
-}
-
-#[test]
-fn items_and_contents(rt: HostRuntime) -> Result<(), Fail> {
-    let alloc = rt.alloc();
-    let most = Limits::standard();
-    let mut ground = memory(alloc)?;
-    let mut store = three(alloc, &mut ground, &most)?;
-    assert_eq!(rt; store.commits(), 3);
-    assert_eq!(rt; store.kept_length(), 3);
-    assert_eq!(rt; store.used(), 327);
-    assert_eq!(rt;
-        content_at(alloc, &mut store, &mut ground, "x")?.as_slice(),
-        b"abc".as_slice()
-    );
-    commit(alloc, &mut store, &mut ground, X_D, b"d")?;
-    commit(alloc, &mut store, &mut ground, FOLDER, b"d")?;
-    assert_eq!(rt; store.kept_length(), 4);
-    let mut again = open(alloc, &mut ground, &most)?;
-    assert_eq!(rt; again.items(), store.items());
-    assert_eq!(rt; again.used(), store.used());
-    assert_eq!(rt; again.kept_length(), 4);
-    assert_eq!(rt; again.commits(), 0);
-    assert_eq!(rt; again.limits(), &most);
-    assert_eq!(rt; again.closed(), None);
-    let listed = format!(in alloc; "{:?}", again.items().len())?;
-    assert_eq!(rt; listed.as_str(), "5");
-    assert_eq!(rt;
-        content_at(alloc, &mut again, &mut ground, "x")?.as_slice(),
-        b"d".as_slice()
-    );
-    assert_eq!(rt;
-        content_at(alloc, &mut again, &mut ground, "a/b/y")?.as_slice(),
-        b"abc".as_slice()
-    );
-    assert_eq!(rt;
-        content_at(alloc, &mut again, &mut ground, "f"),
-        Err(Stop::NoFile)
-    );
-    Ok(())
 }
 
 #[test]
@@ -259,94 +169,6 @@ fn what_is_full(rt: HostRuntime) -> Result<(), Fail> {
         let again = open(alloc, &mut ground, &limits)?;
         assert_eq!(rt; again.items(), store.items());
         assert_eq!(rt; again.kept_length(), store.kept_length());
-    }
-    Ok(())
-}
-
-// Whether the store has the rows that so many of the three first changes leave.
-fn has_first(alloc: Global, store: &Store, count: u64) -> Result<bool, Stop> {
-    let most = Limits::standard();
-    let mut other = memory(alloc).map_err(|_| Stop::Memory)?;
-    let mut model = open(alloc, &mut other, &most)?;
-    if count > 0 {
-        commit(alloc, &mut model, &mut other, X_ABC, b"abc")?;
-    }
-    if count > 1 {
-        commit(alloc, &mut model, &mut other, Y_ABC, b"abc")?;
-    }
-    if count > 2 {
-        commit(alloc, &mut model, &mut other, GET_Y, b"abc")?;
-    }
-    Ok(store.items() == model.items() && store.kept_length() == model.kept_length())
-}
-
-// Commits the three first changes to an open store, and gives the fault of the first commit that has one.
-fn commit_three<G: Ground>(alloc: Global, store: &mut Store, outside: &mut G) -> Result<(), Stop>
-    requires { G.tells → ⊥ }
-{
-    commit(alloc, store, outside, X_ABC, b"abc")?;
-    commit(alloc, store, outside, Y_ABC, b"abc")?;
-    commit(alloc, store, outside, GET_Y, b"abc")
-}
-
-#[test]
-fn each_call_fails_in_turn(rt: HostRuntime) -> Result<(), Fail> {
-    let alloc = rt.alloc();
-    let most = Limits::standard();
-    let device = Err(Stop::Commit(CommitFault::Device));
-    for number in 11..39u64 {
-        let failing = [number].to_vec(alloc)?;
-        let mut ground = Quiet::new(FaultyGround::new(alloc, 200, 4000, failing)?);
-        let mut store = open(alloc, &mut ground, &most)?;
-        let done = commit_three(alloc, &mut store, &mut ground);
-        let commits = store.commits();
-        assert!(rt; done.is_err());
-        if done == device {
-            let closed = CommitFault::Closed(commits + 1);
-            assert_eq!(rt; store.closed(), Some(commits + 1));
-            assert_eq!(rt;
-                commit(alloc, &mut store, &mut ground, FOLDER, b"abc"),
-                Err(Stop::Commit(closed))
-            );
-            let again = open(alloc, &mut ground, &most)?;
-            assert!(rt;
-                has_first(alloc, &again, commits)? || has_first(alloc, &again, commits + 1)?
-            );
-        } else {
-            assert_eq!(rt; store.closed(), None);
-            let again = open(alloc, &mut ground, &most)?;
-            assert!(rt; has_first(alloc, &again, commits)?);
-        }
-    }
-    Ok(())
-}
-
-#[test]
-fn commits_stopped_at_each_moment(rt: HostRuntime) -> Result<(), Fail> {
-    let alloc = rt.alloc();
-    let most = Limits::standard();
-    let mut ground = memory(alloc)?;
-    let mut store = open(alloc, &mut ground, &most)?;
-    let mut least = 0;
-    for count in 0..3u64 {
-        let bytes = match count {
-            0 => X_ABC,
-            1 => Y_ABC,
-            _ => GET_Y,
-        };
-        commit(alloc, &mut store, &mut ground, bytes, b"abc")?;
-        let moments = ground.inner.moments();
-        for moment in least..moments {
-            for choice in [0u64, 1, 2] {
-                let mut after = Quiet::new(ground.inner.after_crash(alloc, moment, choice)?);
-                let again = open(alloc, &mut after, &most)?;
-                assert!(rt;
-                    has_first(alloc, &again, count)? || has_first(alloc, &again, count + 1)?
-                );
-                assert!(rt; moment + 1 < moments || has_first(alloc, &again, count + 1)?);
-            }
-        }
-        least = moments;
     }
     Ok(())
 }
