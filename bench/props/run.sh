@@ -2,8 +2,9 @@
 # Times `set`, `with`, `with_sha1` and `drop_id` at 1,000, 10,000, 100,000 and 1,000,000 live rows, each with three pairs
 # (one that a tenth of a per cent of the rows has, one that ten rows have, and one of its own) and digests of its own. The
 # times are nanoseconds a call, over calls that change or ask other rows each time; a `set` replaces a row and one of its
-# pairs. The last figure is the memory of the process for a row, which says something from 100,000 rows on. Time that grows
-# as the rows do would be ten times as long on each line. It works in a copy, and leaves nothing in the repository.
+# pairs. The last figures are the memory of the process for a row, and for one without digests, which say something from
+# 100,000 rows on. Time that grows as the rows do would be ten times as long on each line. It works in a copy, and leaves
+# nothing in the repository.
 #
 #     bench/props/run.sh [ROWS..]
 set -e
@@ -29,9 +30,16 @@ use std::env;
 use std::io;
 use std::time::Instant;
 
+// A number that no other number gives, spread as the bytes of digests are.
+fn spread(n: u32) -> u32 {
+    let n = (n ^ (n >> 16)).wrapping_mul(0x85EB_CA6B);
+    let n = (n ^ (n >> 13)).wrapping_mul(0xC2B2_AE35);
+    n ^ (n >> 16)
+}
+
 // Digests that no other number has.
 fn digests(n: u32) -> Digests {
-    let bytes = n.to_be_bytes();
+    let bytes = spread(n).to_be_bytes();
     let mut digests = Digests {
         md5: [0; 16],
         sha1: [0; 20],
@@ -75,6 +83,15 @@ fn fill(alloc: Global, props: &mut Props, rows: u32) -> Result<(), AllocError> {
         props.set(alloc, id, pairs(alloc, id, 0)?.as_slice(), Some(&digests(id)))?;
     }
     Ok(())
+}
+
+// Rows without digests, for what they take.
+fn fill_bare(alloc: Global, rows: u32) -> Result<usize, AllocError> {
+    let mut props = Props::new(alloc)?;
+    for id in 0..rows {
+        props.set(alloc, id, pairs(alloc, id, 0)?.as_slice(), None)?;
+    }
+    Ok(props.with("the.number.of.itself", "0").len())
 }
 
 fn set_calls(alloc: Global, props: &mut Props, rows: u32, calls: u32) -> Result<(), AllocError> {
@@ -151,7 +168,11 @@ fn times(rt: &HostRuntime, rows: u32) -> io::Result<()> {
 
 fn main(rt: HostRuntime) -> io::Result<()> {
     for word in env::args(&rt)?.skip(1) {
-        if let Ok(rows) = word.parse::<u32>() {
+        if let Some(word) = word.strip_prefix("bare:") {
+            if let Ok(rows) = word.parse::<u32>() {
+                fill_bare(rt.alloc(), rows)?;
+            }
+        } else if let Ok(rows) = word.parse::<u32>() {
             times(&rt, rows)?;
         }
     }
@@ -162,10 +183,14 @@ cd "$copy/crates/arti_props_times"
 rt run -- 10 > "$copy/log"
 python3 - ${*:-1000 10000 100000 1000000} <<'TIMES'
 import os, subprocess, sys
-for rows in sys.argv[1:]:
-    child = subprocess.Popen(["out/arti_props_times", rows], stdout=subprocess.PIPE)
+def run(word):
+    child = subprocess.Popen(["out/arti_props_times", word], stdout=subprocess.PIPE)
     line = child.stdout.read().decode().strip()
     _, status, usage = os.wait4(child.pid, 0)
     assert status == 0, status
-    print(f"{line}, {usage.ru_maxrss * 1024 // int(rows)} bytes a row")
+    return line, usage.ru_maxrss * 1024
+for rows in sys.argv[1:]:
+    line, memory = run(rows)
+    _, bare = run(f"bare:{rows}")
+    print(f"{line}, {memory // int(rows)} bytes a row, {bare // int(rows)} without digests", flush=True)
 TIMES

@@ -1,27 +1,31 @@
 -- What a change of digests does to the lists of each feature.
-use Rattle.std.proofs.Common.{◌≡◌, ℕ, Bool, true, false, List, refl, sym, ap, ◌∙◌, inl, Option, Some, None, subst}
+use Rattle.std.proofs.Common.{◌≡◌, ℕ, Bool, true, false, List, [], refl, sym, ap, ◌∙◌, inl, Option, Some, None, subst}
 use Rattle.std.specs.Prelude.{if◌then◌else◌}
 use Rattle.std.specs.Ordering.{nat_cmp}
 use Rattle.std.specs.Cmp.Lexicographic.{slice_cmp}
 use Rattle.std.specs.Str.{bytes_eq}
-use Rattle.std.specs.BTreeMap.{BTreeMap, get, is_at}
+use Rattle.std.specs.BTreeMap.{is_at}
 use Rattle.std.proofs.lemmas.Map.Text.{is_eq-slice_cmp}
 use Rattle.std.proofs.lemmas.Slice.Eq.{bytes_eq-Decides}
 use Rattle.arti_rows.specs.declared.rows.Digests.{Digests}
 use Rattle.arti_props.specs.declared.index.Index.{Index}
 use Rattle.arti_props.specs.Ids.{IdList}
 use Rattle.arti_props.specs.Lists.{ids_of, HasRoom, IsReady}
+use Rattle.arti_props.specs.declared.lists.Lists.{Lists as Kept_lists}
+use Rattle.arti_props.specs.Found.{found as found_by}
 use Rattle.arti_props.specs.Rows.{Feature, Pair, Md5, Sha1, Sha256, has_digest, has}
 use Rattle.arti_props.specs.declared.row.Row.{Row}
 use Rattle.std.specs.Option.{option_map_or}
 use Rattle.std.proofs.lemmas.Bool.{false≢true}
 use Rattle.arti_props.specs.Asked.{list_of}
+use Rattle.arti_props.specs.Lists.{list_in}
+use Rattle.arti_props.proofs.Updates.{no_entries}
 
 abbrev pub Lists : Type 0
-Lists = BTreeMap (List ℕ) IdList
+Lists = Kept_lists (List ℕ)
 
 abbrev pub found : Lists → List ℕ → Option IdList
-found lists digest = get (slice_cmp nat_cmp) lists digest
+found lists digest = found_by (slice_cmp nat_cmp) lists digest
 
 pub same_digest : (d : List ℕ) → bytes_eq d d ≡ true
 same_digest d = (bytes_eq-Decides d d).1 refl
@@ -69,3 +73,20 @@ digest_room old new digests row md5 sha1 sha256 is room (Pair k v) has = absurd 
 digest_room old new digests row md5 sha1 sha256 is room (Md5 d) has = subst (λ (m : Lists). HasRoom (found m d)) (sym md5) (room (Md5 d) (ap (λ o. option_map_or (has_digest (Md5 d)) o false) is ∙ has))
 digest_room old new digests row md5 sha1 sha256 is room (Sha1 d) has = subst (λ (m : Lists). HasRoom (found m d)) (sym sha1) (room (Sha1 d) (ap (λ o. option_map_or (has_digest (Sha1 d)) o false) is ∙ has))
 digest_room old new digests row md5 sha1 sha256 is room (Sha256 d) has = subst (λ (m : Lists). HasRoom (found m d)) (sym sha256) (room (Sha256 d) (ap (λ o. option_map_or (has_digest (Sha256 d)) o false) is ∙ has))
+
+-- no list where none is found
+pub none_all : (index : Index) → index.values.entries ≡ [] → ((d : List ℕ) → found index.md5s d ≡ None) → ((d : List ℕ) → found index.sha1s d ≡ None) → ((d : List ℕ) → found index.sha256s d ≡ None) → (f : Feature) → ids_of (list_of index f) ≡ []
+none_all index values md5 sha1 sha256 (Pair k v) = ap (λ o. ids_of (list_in o v)) (no_entries index.values k values)
+none_all index values md5 sha1 sha256 (Md5 d) = ap ids_of (md5 d)
+none_all index values md5 sha1 sha256 (Sha1 d) = ap ids_of (sha1 d)
+none_all index values md5 sha1 sha256 (Sha256 d) = ap ids_of (sha256 d)
+
+room_of : (lists : Lists) (digest d : List ℕ) → HasRoom (found lists digest) → bytes_eq digest d ≡ true → HasRoom (found lists d)
+room_of lists digest d room same = subst (λ (e : List ℕ). HasRoom (found lists e)) ((bytes_eq-Decides digest d).0 same) room
+
+-- room for each of the digests
+pub room_all : (digests : Digests) (index : Index) → HasRoom (found index.md5s digests.md5) → HasRoom (found index.sha1s digests.sha1) → HasRoom (found index.sha256s digests.sha256) → (f : Feature) → has_digest f digests ≡ true → HasRoom (list_of index f)
+room_all digests index md5 sha1 sha256 (Pair k v) has = absurd (false≢true has)
+room_all digests index md5 sha1 sha256 (Md5 d) has = room_of index.md5s digests.md5 d md5 has
+room_all digests index md5 sha1 sha256 (Sha1 d) has = room_of index.sha1s digests.sha1 d sha1 has
+room_all digests index md5 sha1 sha256 (Sha256 d) has = room_of index.sha256s digests.sha256 d sha256 has

@@ -3,3 +3,4 @@ mod Updates
 mod Pairs
 mod Features
 mod RowLists
+mod Boxes

@@ -28,6 +28,16 @@ impl Model for Ids {
 }
 
 impl Ids {
+    /// One id, and room for another.
+    pub(crate) fn beside(alloc: Global, id: u32) -> Result<Ids, AllocError>
+        ensures ids { IfOk result (λ i. i.ids ≡ id ∷ []) }
+        ensures room { IfOk result (λ i. 1 < i.capacity) }
+    {
+        Ok(Ids {
+            kept: Kept::Many(beside(alloc, id)?),
+        })
+    }
+
     /// No ids, and room for one.
     pub(crate) fn new() -> Ids
         ensures ids { result.ids ≡ [] }

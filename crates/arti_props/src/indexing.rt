@@ -18,9 +18,9 @@ pub(crate) fn empty(alloc: Global) -> Index
 {
     Index {
         values: BTreeMap::new(alloc),
-        md5s: BTreeMap::new(alloc),
-        sha1s: BTreeMap::new(alloc),
-        sha256s: BTreeMap::new(alloc),
+        md5s: lists::empty(alloc),
+        sha1s: lists::empty(alloc),
+        sha256s: lists::empty(alloc),
     }
 }
 

@@ -8,6 +8,7 @@ mod kept;
 mod lists;
 mod props;
 mod row;
+mod rows;
 mod texts;
 mod values;
 

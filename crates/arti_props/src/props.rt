@@ -8,17 +8,17 @@ ghost use Rattle.arti_props.specs.Asked.{Stands};
 
 use crate::index::Index;
 use crate::row::Row;
+use crate::rows::Rows;
 use crate::{indexing, lists, values};
 use arti_rows::{Digests, Property};
 use std::alloc::{AllocError, Global};
-use std::collections::BTreeMap;
 use std::marker::Model;
 
 /// Rows of properties and digests under ids. Contracts see the list of the live rows, each behind its id, in ascending
 /// order of ids.
 #[derive(Drop)]
 pub struct Props {
-    rows: BTreeMap<u32, Row>,
+    rows: Rows,
     index: Index,
 }
 
@@ -29,9 +29,9 @@ impl Model for Props {
 
     ghost Value = { List (ℕ × Row) };
 
-    ghost view = { λ p. p.rows.entries };
+    ghost view = { λ p. p.rows };
 
-    ghost invariant = { λ p. Stands p.index p.rows.entries };
+    ghost invariant = { λ p. Stands p.index p.rows };
 }
 
 impl Props {
@@ -40,7 +40,7 @@ impl Props {
         ensures { IfOk result (λ p. p ≡ []) }
     {
         Ok(Props {
-            rows: BTreeMap::new(alloc),
+            rows: Rows::new(alloc),
             index: indexing::empty(alloc),
         })
     }
@@ -71,7 +71,7 @@ impl Props {
     pub fn pairs(&self, id: u32) -> &[Property]
         ensures { result.now ≡ pairs_of id self.now }
     {
-        match self.rows.get(&id) {
+        match self.rows.get(id) {
             Some(row) => row.pairs.as_slice(),
             None => &[],
         }
@@ -113,41 +113,41 @@ impl Props {
     pub fn order(&self)
         ensures { IsStrictlySortedBy nat_cmp (keys_of self.now) }
     {
-        let _ = self.rows.len();
+        let _ = &self.rows;
     }
 }
 
 // Puts a row under an id, in the place of what stands there. Nothing changes after all room is made.
 fn put(
     alloc: Global,
-    rows: &mut BTreeMap<u32, Row>,
+    rows: &mut Rows,
     index: &mut Index,
     id: u32,
     row: Row,
 ) -> Result<(), AllocError>
-    requires stands { Stands index.old rows.old.entries }
-    ensures stands { Stands index.new rows.new.entries }
-    ensures set { OnOk result (rows.new.entries ≡ set_row id row rows.old.entries) }
-    ensures unchanged { OnErr result (rows.new.entries ≡ rows.old.entries) }
+    requires stands { Stands index.old rows.old }
+    ensures stands { Stands index.new rows.new }
+    ensures set { OnOk result (rows.new ≡ set_row id row rows.old) }
+    ensures unchanged { OnErr result (rows.new ≡ rows.old) }
 {
     if let Err(error) = indexing::make_room(alloc, index, &row) {
         indexing::tidy(index, Some(&row));
         return Err(error);
     }
-    let old = rows.insert(id, row)?;
+    let old = rows.put(alloc, id, row)?;
     indexing::remove(index, old.as_ref(), id);
-    indexing::add(index, rows.get(&id), id);
+    indexing::add(index, rows.get(id), id);
     indexing::tidy(index, old.as_ref());
     Ok(())
 }
 
 // Takes away the row under an id.
-fn take(rows: &mut BTreeMap<u32, Row>, index: &mut Index, id: u32)
-    requires stands { Stands index.old rows.old.entries }
-    ensures stands { Stands index.new rows.new.entries }
-    ensures dropped { rows.new.entries ≡ drop_row id rows.old.entries }
+fn take(rows: &mut Rows, index: &mut Index, id: u32)
+    requires stands { Stands index.old rows.old }
+    ensures stands { Stands index.new rows.new }
+    ensures dropped { rows.new ≡ drop_row id rows.old }
 {
-    let old = rows.remove(&id);
+    let old = rows.take(id);
     indexing::remove(index, old.as_ref(), id);
     indexing::tidy(index, old.as_ref());
 }

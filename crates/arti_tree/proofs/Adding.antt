@@ -54,7 +54,7 @@ none_map : (id : ℕ) (o : Option Slot) → option_map (row_with id) o ≡ None 
 none_map id None e = refl
 none_map id (Some s) e = cc
 
-module _ (slots : List (Option Slot)) (all order : List ℕ) (lists : List (List ℕ)) (repos : List ℕ → List ℕ) (kept : Kept slots all order lists repos) where
+module _ (slots : List (Option Slot)) (all order : List ℕ) (lists : ℕ → List ℕ) (repos : List ℕ → List ℕ) (kept : Kept slots all order lists repos) where
   abbrev rows : List Row
   rows = live 0 slots
 
@@ -64,7 +64,7 @@ module _ (slots : List (Option Slot)) (all order : List ℕ) (lists : List (List
   pub all_long : length all ≡ length rows
   all_long = ap length kept.all_is ∙ length-map rows (λ (r : Row). r.id)
 
-  pub children_ascend : (i : ℕ) → AscendFrom 0 (get_or lists i [])
+  pub children_ascend : (i : ℕ) → AscendFrom 0 (lists i)
   children_ascend i = subst (λ (l : List ℕ). AscendFrom 0 l) (sym (kept.children_are i)) (inside_ascends rows (at slots i) kept.tree.ascend)
 
   pub repo_ascends : (q : List ℕ) → AscendFrom 0 (repos q)
@@ -76,7 +76,7 @@ module _ (slots : List (Option Slot)) (all order : List ℕ) (lists : List (List
   pub free_slot : (id : ℕ) → Lacks all id → at slots id ≡ None
   free_slot id lacks = none_map id (at slots id) (sym (row_of_live id slots) ∙ free_row id lacks)
 
-  pub children_lack : (id i : ℕ) → Lacks all id → Lacks (get_or lists i []) id
+  pub children_lack : (id i : ℕ) → Lacks all id → Lacks (lists i) id
   children_lack id i lacks = subst (λ (l : List ℕ). Lacks l id) (sym (kept.children_are i)) (inside_lacks rows (at slots i) id (free_row id lacks))
 
   pub repo_lacks : (id : ℕ) (q : List ℕ) → Lacks all id → Lacks (repos q) id
@@ -111,15 +111,14 @@ module _ (slots : List (Option Slot)) (all order : List ℕ) (lists : List (List
   folder_within k = folder_by (has_folder k) (folder_of k)
 
   -- with other lists that say the same
-  pub kept_same : (new_slots : List (Option Slot)) (new_all new_order : List ℕ) (new_lists : List (List ℕ)) (new_repos : List ℕ → List ℕ) → new_slots ≡ slots → new_all ≡ all → new_order ≡ order → length lists ≤ length new_lists
-      → ((i : ℕ) → get_or new_lists i [] ≡ get_or lists i []) → ((q : List ℕ) → new_repos q ≡ repos q) → Kept new_slots new_all new_order new_lists new_repos
-  kept_same new_slots new_all new_order new_lists new_repos slots_are all_is order_is long lists_are repos_are =
+  pub kept_same : (new_slots : List (Option Slot)) (new_all new_order : List ℕ) (new_lists : ℕ → List ℕ) (new_repos : List ℕ → List ℕ) → new_slots ≡ slots → new_all ≡ all → new_order ≡ order
+      → ((i : ℕ) → new_lists i ≡ lists i) → ((q : List ℕ) → new_repos q ≡ repos q) → Kept new_slots new_all new_order new_lists new_repos
+  kept_same new_slots new_all new_order new_lists new_repos slots_are all_is order_is lists_are repos_are =
       subst (λ (s : List (Option Slot)). Kept s new_all new_order new_lists new_repos) (sym slots_are)
       record {
         tree = kept.tree;
         all_is = all_is ∙ kept.all_is;
         order_is = subst (λ (o : List ℕ). Ordered rows o) (sym order_is) kept.order_is;
-        long = omega (arith, kept.long);
         children_are = λ i. lists_are i ∙ kept.children_are i;
         repos_are = λ q. repos_are q ∙ kept.repos_are q;
       }

@@ -129,7 +129,7 @@ module _ (rows : List Row) (r : Row) (tree : IsTree rows) (fresh : Fresh rows r)
   pub list_more : (t : Bool) (p : Row → Bool) → p r ≡ t → ids (filter p more) ≡ cond t (with_id r.id (ids (filter p rows))) (ids (filter p rows))
   list_more t p is = list_by (p r) t p refl is
 
-module _ (slots more_slots : List (Option Slot)) (s : Slot) (id : ℕ) (all order : List ℕ) (lists more_lists : List (List ℕ)) (repos more_repos : List ℕ → List ℕ) (kept : Kept slots all order lists repos)
+module _ (slots more_slots : List (Option Slot)) (s : Slot) (id : ℕ) (all order : List ℕ) (lists more_lists : ℕ → List ℕ) (repos more_repos : List ℕ → List ℕ) (kept : Kept slots all order lists repos)
     (fresh : Fresh (live 0 slots) (row_with id s)) where
   abbrev rows : List Row
   rows = live 0 slots
@@ -159,15 +159,15 @@ module _ (slots more_slots : List (Option Slot)) (s : Slot) (id : ℕ) (all orde
 
   module _ (is_more : live 0 more_slots ≡ with_row new rows)
       (slots_are : (i : ℕ) → at more_slots i ≡ cond (i == id) (Some s) (at slots i))
-      (lists_are : (i : ℕ) → get_or more_lists i [] ≡ cond (is_it (folder_id rows s.key) i) (with_id id (get_or lists i [])) (get_or lists i [])) where
-    children_by : (i : ℕ) (b : Bool) (o : Option Slot) → eqb i id ≡ b → at slots i ≡ o → get_or more_lists i [] ≡ inside (with_row new rows) (cond b (Some s) o)
+      (lists_are : (i : ℕ) → more_lists i ≡ cond (is_it (folder_id rows s.key) i) (with_id id (lists i)) (lists i)) where
+    children_by : (i : ℕ) (b : Bool) (o : Option Slot) → eqb i id ≡ b → at slots i ≡ o → more_lists i ≡ inside (with_row new rows) (cond b (Some s) o)
     children_by i true o same was =
         let e : id ≡ i = sym (eqb-true i id same) in
-        subst (λ (j : ℕ). get_or more_lists j [] ≡ inside (with_row new rows) (Some s)) e
-        (lists_are id ∙ ap (λ t. cond t (with_id id (get_or lists id [])) (get_or lists id [])) folder_apart ∙ kept.children_are id ∙ ap (inside rows) empty_id ∙ sym (ap ids (filter_none (lies_in s.key) (with_row new rows) (none_in_new rows new kept.tree fresh))))
+        subst (λ (j : ℕ). more_lists j ≡ inside (with_row new rows) (Some s)) e
+        (lists_are id ∙ ap (λ t. cond t (with_id id (lists id)) (lists id)) folder_apart ∙ kept.children_are id ∙ ap (inside rows) empty_id ∙ sym (ap ids (filter_none (lies_in s.key) (with_row new rows) (none_in_new rows new kept.tree fresh))))
     children_by i false None same was =
-        let old : get_or lists i [] ≡ [] = kept.children_are i ∙ ap (inside rows) was in
-        lists_are i ∙ ap (λ t. cond t (with_id id (get_or lists i [])) (get_or lists i [])) (apart i was) ∙ old
+        let old : lists i ≡ [] = kept.children_are i ∙ ap (inside rows) was in
+        lists_are i ∙ ap (λ t. cond t (with_id id (lists i)) (lists i)) (apart i was) ∙ old
       where
         apart : (j : ℕ) → at slots j ≡ None → is_it (folder_id rows s.key) j ≡ false
         apart j none = is_false (is_it (folder_id rows s.key) j) (λ e. by_folder (has_folder s.key) (row_at rows (folder_of s.key)) refl e)
@@ -188,17 +188,16 @@ module _ (slots more_slots : List (Option Slot)) (s : Slot) (id : ℕ) (all orde
         lists_are i ∙ ap (λ l. cond (is_it (folder_id rows s.key) i) (with_id id l) l) (kept.children_are i ∙ ap (inside rows) was)
         ∙ sym (list_more rows new kept.tree fresh (is_it (folder_id rows s.key) i) (lies_in t.key) (lies_by_id rows new kept.tree x x_live))
 
-    pub children_more : (i : ℕ) → get_or more_lists i [] ≡ inside (live 0 more_slots) (at more_slots i)
+    pub children_more : (i : ℕ) → more_lists i ≡ inside (live 0 more_slots) (at more_slots i)
     children_more i = children_by i (eqb i id) (at slots i) refl refl ∙ sym (ap (λ (l : List Row). inside l (cond (i == id) (Some s) (at slots i))) is_more) ∙ sym (ap (inside (live 0 more_slots)) (slots_are i))
 
     -- each list is kept
-    pub kept_more : (more_all more_order : List ℕ) → more_all ≡ with_id id all → Ordered (with_row new rows) more_order → length more_slots ≤ length more_lists
+    pub kept_more : (more_all more_order : List ℕ) → more_all ≡ with_id id all → Ordered (with_row new rows) more_order
         → ((q : List ℕ) → more_repos q ≡ cond (pointwise nat_eq q s.key.repo) (with_id id (repos q)) (repos q)) → Kept more_slots more_all more_order more_lists more_repos
-    kept_more more_all more_order all_is ordered long repos_are = record {
+    kept_more more_all more_order all_is ordered repos_are = record {
       tree = subst IsTree (sym is_more) (tree_more rows new kept.tree fresh);
       all_is = all_is ∙ ap (with_id id) kept.all_is ∙ sym (ids_with new rows) ∙ sym (ap ids is_more);
       order_is = subst (λ (l : List Row). Ordered l more_order) (sym is_more) ordered;
-      long = long;
       children_are = children_more;
       repos_are = λ q. repos_are q ∙ ap (λ (l : List ℕ). cond (pointwise nat_eq q s.key.repo) (with_id id l) l) (kept.repos_are q)
           ∙ sym (ap (λ (l : List Row). ids (filter (is_of q) l)) is_more ∙ list_more rows new kept.tree fresh (pointwise nat_eq q s.key.repo) (is_of q) refl);

@@ -1,5 +1,5 @@
 -- The kept lists as a row gets another key, and those beneath it with it.
-use Rattle.std.proofs.Common.{◌≡◌, ◌≢◌, ℕ, ◌≤◌, ⊎_elim, Bool, true, false, cond, eqb, List, [], ◌∷◌, length, get_or, Option, Some, None, option_map, refl, sym, ap, ◌∙◌, subst}
+use Rattle.std.proofs.Common.{◌≡◌, ◌≢◌, ℕ, ⊎_elim, Bool, true, false, cond, eqb, List, [], ◌∷◌, Option, Some, None, option_map, refl, sym, ap, ◌∙◌, subst}
 use Rattle.std.specs.Prelude.{map, ◌||◌, ◌&&◌, not, nat_eq, IsSome}
 use Rattle.std.specs.Option.{option_map_or}
 use Rattle.std.specs.List.{filter}
@@ -237,39 +237,38 @@ module _ (rows : List Row) (from to : Key) (tree : IsTree rows) (from_is : IsKey
         (λ j. ap (λ (k : List ℕ). has k j) m_is ∙ has_shifted was will w l j ∙ ap (λ b. form was will b (has l j)) (is_w.each j) ∙ ap (form was will (option_map_or within_row (row_of rows j) false)) (l_has j)
         ∙ repo_by q j (row_of rows j) refl ∙ sym (has_now (is_of q) j))
 
-module _ (slots new_slots : List (Option Slot)) (from to : Key) (all order : List ℕ) (lists new_lists : List (List ℕ)) (repos new_repos : List ℕ → List ℕ) (kept : Kept slots all order lists repos)
+module _ (slots new_slots : List (Option Slot)) (from to : Key) (all order : List ℕ) (lists new_lists : ℕ → List ℕ) (repos new_repos : List ℕ → List ℕ) (kept : Kept slots all order lists repos)
     (from_is : IsKey from) (to_is : IsKey to) (stay : StayKeys (live 0 slots) from to) (absent : row_at (live 0 slots) to ≡ None) (folder : HasFolder (live 0 slots) to) (apart_to : is_within from to ≡ false)
     (r : Row) (r_live : IsLive (live 0 slots) r) (r_key : r.key ≡ from) (w : List ℕ) (is_w : AreWithin (live 0 slots) from w) where
   abbrev rows : List Row
   rows = live 0 slots
 
   module _ (is_new : live 0 new_slots ≡ map (moved_row from to) rows)
-      (lists_are : (i : ℕ) → get_or new_lists i [] ≡ shifted (is_it (folder_id rows from) i) (is_it (folder_id rows to) i) (r.id ∷ []) (get_or lists i []))
+      (lists_are : (i : ℕ) → new_lists i ≡ shifted (is_it (folder_id rows from) i) (is_it (folder_id rows to) i) (r.id ∷ []) (lists i))
       (repos_are : (q : List ℕ) → new_repos q ≡ shifted (pointwise nat_eq q from.repo) (pointwise nat_eq q to.repo) w (repos q)) where
     row_now : (i : ℕ) → option_map (row_with i) (at new_slots i) ≡ option_map (moved_row from to) (row_of rows i)
     row_now i = sym (row_of_live i new_slots) ∙ ap (λ (l : List Row). row_of l i) is_new ∙ row_of_map (moved_row from to) (keeps_id from to) rows i
 
-    children_by : (i : ℕ) (o : Option Slot) → at slots i ≡ o → get_or new_lists i [] ≡ inside (map (moved_row from to) rows) (at new_slots i)
+    children_by : (i : ℕ) (o : Option Slot) → at slots i ≡ o → new_lists i ≡ inside (map (moved_row from to) rows) (at new_slots i)
     children_by i None is =
         let none : row_of rows i ≡ None = row_of_live i slots ∙ ap (option_map (row_with i)) is in
         let new_none : at new_slots i ≡ None = none_slot i (at new_slots i) (row_now i ∙ ap (option_map (moved_row from to)) none) in
-        lists_are i ∙ ap (λ b. shifted b (is_it (folder_id rows to) i) (r.id ∷ []) (get_or lists i [])) (folder_apart rows from to kept.tree from_is to_is stay absent w is_w from i none)
-        ∙ ap (λ b. shifted false b (r.id ∷ []) (get_or lists i [])) (folder_apart rows from to kept.tree from_is to_is stay absent w is_w to i none)
+        lists_are i ∙ ap (λ b. shifted b (is_it (folder_id rows to) i) (r.id ∷ []) (lists i)) (folder_apart rows from to kept.tree from_is to_is stay absent w is_w from i none)
+        ∙ ap (λ b. shifted false b (r.id ∷ []) (lists i)) (folder_apart rows from to kept.tree from_is to_is stay absent w is_w to i none)
         ∙ kept.children_are i ∙ ap (inside rows) is ∙ sym (ap (inside (map (moved_row from to) rows)) new_none)
     children_by i (Some s) is =
         let x : Row = row_with i s in
         let x_live : IsLive rows x = live_in slots i s is in
         let f : Filled (at new_slots i) i (moved_row from to x) = filled (at new_slots i) i (moved_row from to x) (row_now i ∙ ap (option_map (moved_row from to)) x_live) in
-        list_moved rows from to kept.tree from_is to_is stay absent w is_w folder apart_to r r_live r_key x i (get_or lists i []) (get_or new_lists i []) x_live refl (kept.children_are i ∙ ap (inside rows) is) (lists_are i)
+        list_moved rows from to kept.tree from_is to_is stay absent w is_w folder apart_to r r_live r_key x i (lists i) (new_lists i) x_live refl (kept.children_are i ∙ ap (inside rows) is) (lists_are i)
         ∙ ap (λ (k : Key). ids (filter (lies_in k) (map (moved_row from to) rows))) (sym f.key) ∙ sym (ap (inside (map (moved_row from to) rows)) f.is)
 
     -- each list is kept
-    pub kept_moved : (new_order : List ℕ) → Ordered (live 0 new_slots) new_order → length new_slots ≤ length new_lists → Kept new_slots all new_order new_lists new_repos
-    kept_moved new_order ordered long = record {
+    pub kept_moved : (new_order : List ℕ) → Ordered (live 0 new_slots) new_order → Kept new_slots all new_order new_lists new_repos
+    kept_moved new_order ordered = record {
       tree = subst IsTree (sym is_new) (tree_moved rows from to kept.tree from_is to_is stay absent folder apart_to);
       all_is = kept.all_is ∙ sym (ids_map (moved_row from to) (keeps_id from to) rows) ∙ sym (ap ids is_new);
       order_is = ordered;
-      long = long;
       children_are = λ i. children_by i (at slots i) refl ∙ sym (ap (λ (l : List Row). inside l (at new_slots i)) is_new);
       repos_are = λ q. repo_moved rows from to kept.tree from_is to_is stay absent w is_w folder apart_to r r_live r_key q (repos q) (new_repos q) (kept.repos_are q) (repos_are q) ∙ sym (ap (λ (l : List Row). ids (filter (is_of q) l)) is_new);
     }

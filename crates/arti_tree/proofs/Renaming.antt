@@ -1,6 +1,6 @@
 -- What a tree has to show as a row of it gets another key.
-use Rattle.std.proofs.Common.{◌≡◌, ℕ, ◌<◌, ◌≤◌, false, List, [], ◌∷◌, length, get_or, Option, Some, None, option_map, refl, sym, ap, ◌∙◌, subst, arith}
-use Rattle.std.specs.Prelude.{map, nat_eq, IfSome}
+use Rattle.std.proofs.Common.{◌≡◌, ℕ, false, List, [], ◌∷◌, length, Option, Some, None, option_map, refl, sym, ap, ◌∙◌, subst}
+use Rattle.std.specs.Prelude.{map, nat_eq}
 use Rattle.std.specs.Option.{option_map_or}
 use Rattle.std.specs.Cmp.Lexicographic.{pointwise}
 use Rattle.std.proofs.lemmas.List.{length-map}
@@ -15,13 +15,12 @@ use Rattle.arti_tree.specs.Renames.{is_within, moved_row, has, AreWithin, key_fo
 use Rattle.arti_tree.specs.Shifts.{shifted, AreNew}
 use Rattle.arti_tree.proofs.Folders.{lies_by_id}
 use Rattle.arti_tree.proofs.Looks.{live_in}
-use Rattle.arti_tree.proofs.Adding.{folder_within, if_some_more}
 use Rattle.arti_tree.proofs.Members.{has_rows, lacks_from}
 use Rattle.arti_tree.proofs.Moving.{can, all_moved, repo_new, kept_moved}
 use Rattle.arti_tree.proofs.Shifting.{other_way}
 use Rattle.arti_tree.proofs.Finding.{Top, top_of}
 
-module _ (slots : List (Option Slot)) (all order : List ℕ) (lists : List (List ℕ)) (repos : List ℕ → List ℕ) (kept : Kept slots all order lists repos) (self : List Row) (view : live 0 slots ≡ self) (id : ℕ) (from to : Key)
+module _ (slots : List (Option Slot)) (all order : List ℕ) (lists : ℕ → List ℕ) (repos : List ℕ → List ℕ) (kept : Kept slots all order lists repos) (self : List Row) (view : live 0 slots ≡ self) (id : ℕ) (from to : Key)
     (from_is : IsKey from) (to_is : IsKey to) (there : option_map (λ (r : Row). r.key) (row_of self id) ≡ Some from) (absent : row_at self to ≡ None) (folder : HasFolder self to) (apart : is_within from to ≡ false) (stay : StayKeys self from to) (found : List ℕ) (is : AreWithin self from found) where
   abbrev rows : List Row
   rows = live 0 slots
@@ -38,13 +37,7 @@ module _ (slots : List (Option Slot)) (all order : List ℕ) (lists : List (List
   top : Top rows id from
   top = top_of rows id from kept.tree.ascend (subst (λ (l : List Row). option_map (λ (r : Row). r.key) (row_of l id) ≡ Some from) (sym view) there)
 
-  -- a folder's list is there
-  pub folder_list : (k : Key) (o : Option ℕ) (n : ℕ) → o ≡ folder_id self k → n ≡ length lists → IfSome o (λ f. f < n)
-  folder_list k o n o_is e =
-      let here : o ≡ folder_id rows k = o_is ∙ ap (λ (l : List Row). folder_id l k) (sym view) in
-      if_some_more o (length slots) n (subst (λ (p : Option ℕ). IfSome p (λ f. f < length slots)) (sym here) (folder_within slots all order lists repos kept k)) (omega (arith, kept.long))
-
-  absent_by : (i : ℕ) (s : Option Slot) → at slots i ≡ s → is_it (folder_id rows from) i ≡ false → has (get_or lists i []) id ≡ false
+  absent_by : (i : ℕ) (s : Option Slot) → at slots i ≡ s → is_it (folder_id rows from) i ≡ false → has (lists i) id ≡ false
   absent_by i None at_i e = ap (λ (l : List ℕ). has l id) (kept.children_are i ∙ ap (inside rows) at_i)
   absent_by i (Some s) at_i e =
       let x : Row = row_with i s in
@@ -53,8 +46,8 @@ module _ (slots : List (Option Slot)) (all order : List ℕ) (lists : List (List
       ∙ ap (λ (o : Option Row). option_map_or (lies_in s.key) o false) (ap (row_of rows) (sym t.is) ∙ t.live) ∙ lies_by_id rows t.row kept.tree x (live_in slots i s at_i) ∙ ap (λ (k : Key). is_it (folder_id rows k) i) t.key ∙ e
 
   -- the id is in no other folder
-  pub absent_list : (o : Option ℕ) → o ≡ folder_id self from → (i : ℕ) → is_it o i ≡ false → Lacks (get_or lists i []) id
-  absent_list o o_is i e = lacks_from (get_or lists i []) id (absent_by i (at slots i) refl (ap (λ (p : Option ℕ). is_it p i) (sym (o_is ∙ ap (λ (l : List Row). folder_id l from) (sym view))) ∙ e))
+  pub absent_list : (o : Option ℕ) → o ≡ folder_id self from → (i : ℕ) → is_it o i ≡ false → Lacks (lists i) id
+  absent_list o o_is i e = lacks_from (lists i) id (absent_by i (at slots i) refl (ap (λ (p : Option ℕ). is_it p i) (sym (o_is ∙ ap (λ (l : List Row). folder_id l from) (sym view))) ∙ e))
 
   is_here : AreWithin rows from found
   is_here = subst (λ (l : List Row). AreWithin l from found) (sym view) is
@@ -79,17 +72,17 @@ module _ (slots : List (Option Slot)) (all order : List ℕ) (lists : List (List
   rows_moved keys after keys_are e = e ∙ ap (λ (l : List Key). rekeyed_all found l rows) (keys_here keys keys_are) ∙ all_moved rows from to kept.tree from_is to_is stay_here absent_here found is_here
 
   -- each list is kept
-  module _ (keys : List Key) (keys_are : keys ≡ map (key_for self from to) found) (new_slots : List (Option Slot)) (new_order : List ℕ) (new_lists : List (List ℕ)) (new_repos : List ℕ → List ℕ)
+  module _ (keys : List Key) (keys_are : keys ≡ map (key_for self from to) found) (new_slots : List (Option Slot)) (new_order : List ℕ) (new_lists : ℕ → List ℕ) (new_repos : List ℕ → List ℕ)
       (was will : Option ℕ) (was_is : was ≡ folder_id self from) (will_is : will ≡ folder_id self to) (slots_are : live 0 new_slots ≡ rekeyed_all found keys rows) where
-    pub kept_after : Ordered (live 0 new_slots) new_order → length new_slots ≤ length new_lists
-        → ((i : ℕ) → get_or new_lists i [] ≡ shifted (is_it was i) (is_it will i) (id ∷ []) (get_or lists i []))
+    pub kept_after : Ordered (live 0 new_slots) new_order
+        → ((i : ℕ) → new_lists i ≡ shifted (is_it was i) (is_it will i) (id ∷ []) (lists i))
         → ((q : List ℕ) → new_repos q ≡ shifted (pointwise nat_eq q from.repo) (pointwise nat_eq q to.repo) found (repos q)) → Kept new_slots all new_order new_lists new_repos
-    kept_after ordered long lists_are repos_are =
+    kept_after ordered lists_are repos_are =
         let t = top in
         let was_here : was ≡ folder_id rows from = was_is ∙ ap (λ (l : List Row). folder_id l from) (sym view) in
         let will_here : will ≡ folder_id rows to = will_is ∙ ap (λ (l : List Row). folder_id l to) (sym view) in
         kept_moved slots new_slots from to all order lists new_lists repos new_repos kept from_is to_is stay_here absent_here folder_here apart t.row t.live t.key found is_here (rows_moved keys (live 0 new_slots) keys_are slots_are)
-        (λ i. lists_are i ∙ ap (λ (o : Option ℕ). shifted (is_it o i) (is_it will i) (id ∷ []) (get_or lists i [])) was_here ∙ ap (λ (o : Option ℕ). shifted (is_it (folder_id rows from) i) (is_it o i) (id ∷ []) (get_or lists i [])) will_here
-        ∙ ap (λ (n : ℕ). shifted (is_it (folder_id rows from) i) (is_it (folder_id rows to) i) (n ∷ []) (get_or lists i [])) (sym t.is))
+        (λ i. lists_are i ∙ ap (λ (o : Option ℕ). shifted (is_it o i) (is_it will i) (id ∷ []) (lists i)) was_here ∙ ap (λ (o : Option ℕ). shifted (is_it (folder_id rows from) i) (is_it o i) (id ∷ []) (lists i)) will_here
+        ∙ ap (λ (n : ℕ). shifted (is_it (folder_id rows from) i) (is_it (folder_id rows to) i) (n ∷ []) (lists i)) (sym t.is))
         repos_are
-        new_order ordered long
+        new_order ordered

@@ -1,5 +1,5 @@
 -- A tree with one row less.
-use Rattle.std.proofs.Common.{◌≡◌, ◌≢◌, ℕ, ◌+◌, ◌<◌, ◌≤◌, zero, suc, Bool, true, false, cond, eqb, List, [], ◌∷◌, length, get_or, take, drop, Option, Some, None, refl, sym, ap, ◌∙◌, subst, arith}
+use Rattle.std.proofs.Common.{◌≡◌, ◌≢◌, ℕ, ◌+◌, ◌<◌, zero, suc, Bool, true, false, cond, eqb, List, [], ◌∷◌, length, get_or, take, drop, Option, Some, None, refl, sym, ap, ◌∙◌, subst, arith}
 use Rattle.std.specs.Prelude.{◌==◌, All, nat_eq}
 use Rattle.std.specs.List.{filter, find, count_by, remove}
 use Rattle.std.specs.Cmp.Lexicographic.{pointwise}
@@ -108,7 +108,7 @@ empty_either : (b : Bool) (id : ℕ) (l : List ℕ) → l ≡ [] → cond b (wit
 empty_either true id l e = ap (without_id id) e
 empty_either false id l e = e
 
-module _ (slots less_slots : List (Option Slot)) (s : Slot) (id : ℕ) (all order : List ℕ) (lists less_lists : List (List ℕ)) (repos less_repos : List ℕ → List ℕ) (kept : Kept slots all order lists repos)
+module _ (slots less_slots : List (Option Slot)) (s : Slot) (id : ℕ) (all order : List ℕ) (lists less_lists : ℕ → List ℕ) (repos less_repos : List ℕ → List ℕ) (kept : Kept slots all order lists repos)
     (there : at slots id ≡ Some s) (empty : find (lies_in s.key) (live 0 slots) ≡ None) where
   abbrev rows : List Row
   rows = live 0 slots
@@ -121,31 +121,30 @@ module _ (slots less_slots : List (Option Slot)) (s : Slot) (id : ℕ) (all orde
 
   module _ (is_less : live 0 less_slots ≡ without_row id rows)
       (slots_are : (i : ℕ) → at less_slots i ≡ cond (i == id) None (at slots i))
-      (lists_are : (i : ℕ) → get_or less_lists i [] ≡ cond (is_it (folder_id rows s.key) i) (without_id id (get_or lists i [])) (get_or lists i [])) where
-    children_by : (i : ℕ) (b : Bool) (o : Option Slot) → eqb i id ≡ b → at slots i ≡ o → get_or less_lists i [] ≡ inside (without_row id rows) (cond b None o)
+      (lists_are : (i : ℕ) → less_lists i ≡ cond (is_it (folder_id rows s.key) i) (without_id id (lists i)) (lists i)) where
+    children_by : (i : ℕ) (b : Bool) (o : Option Slot) → eqb i id ≡ b → at slots i ≡ o → less_lists i ≡ inside (without_row id rows) (cond b None o)
     children_by i true o same was =
         let e : id ≡ i = sym (eqb-true i id same) in
-        let none : get_or lists i [] ≡ [] = kept.children_are i ∙ ap (λ (j : ℕ). inside rows (at slots j)) (sym e) ∙ ap (inside rows) there ∙ ap ids (filter_none (lies_in s.key) rows empty) in
-        lists_are i ∙ empty_either (is_it (folder_id rows s.key) i) id (get_or lists i []) none
+        let none : lists i ≡ [] = kept.children_are i ∙ ap (λ (j : ℕ). inside rows (at slots j)) (sym e) ∙ ap (inside rows) there ∙ ap ids (filter_none (lies_in s.key) rows empty) in
+        lists_are i ∙ empty_either (is_it (folder_id rows s.key) i) id (lists i) none
     children_by i false None same was =
-        let none : get_or lists i [] ≡ [] = kept.children_are i ∙ ap (inside rows) was in
-        lists_are i ∙ empty_either (is_it (folder_id rows s.key) i) id (get_or lists i []) none
+        let none : lists i ≡ [] = kept.children_are i ∙ ap (inside rows) was in
+        lists_are i ∙ empty_either (is_it (folder_id rows s.key) i) id (lists i) none
     children_by i false (Some t) same was =
         let x : Row = row_with i t in
         lists_are i ∙ ap (λ l. cond (is_it (folder_id rows s.key) i) (without_id id l) l) (kept.children_are i ∙ ap (inside rows) was)
         ∙ sym (list_less rows old kept.tree is_live empty (is_it (folder_id rows s.key) i) (lies_in t.key) (lies_by_id rows old kept.tree x (live_in slots i t was)))
 
-    children_less : (i : ℕ) → get_or less_lists i [] ≡ inside (live 0 less_slots) (at less_slots i)
+    children_less : (i : ℕ) → less_lists i ≡ inside (live 0 less_slots) (at less_slots i)
     children_less i = children_by i (eqb i id) (at slots i) refl refl ∙ sym (ap (λ (l : List Row). inside l (cond (i == id) None (at slots i))) is_less) ∙ sym (ap (inside (live 0 less_slots)) (slots_are i))
 
     -- each list is kept
-    pub kept_less : (less_all less_order : List ℕ) → less_all ≡ without_id id all → Ordered (without_row id rows) less_order → length less_slots ≤ length less_lists
+    pub kept_less : (less_all less_order : List ℕ) → less_all ≡ without_id id all → Ordered (without_row id rows) less_order
         → ((q : List ℕ) → less_repos q ≡ cond (pointwise nat_eq q s.key.repo) (without_id id (repos q)) (repos q)) → Kept less_slots less_all less_order less_lists less_repos
-    kept_less less_all less_order all_is ordered long repos_are = record {
+    kept_less less_all less_order all_is ordered repos_are = record {
       tree = subst IsTree (sym is_less) (tree_less rows old kept.tree is_live empty);
       all_is = all_is ∙ ap (without_id id) kept.all_is ∙ sym (ids_without id rows) ∙ sym (ap ids is_less);
       order_is = subst (λ (l : List Row). Ordered l less_order) (sym is_less) ordered;
-      long = long;
       children_are = children_less;
       repos_are = λ q. repos_are q ∙ ap (λ (l : List ℕ). cond (pointwise nat_eq q s.key.repo) (without_id id l) l) (kept.repos_are q)
           ∙ sym (ap (λ (l : List Row). ids (filter (is_of q) l)) is_less ∙ list_less rows old kept.tree is_live empty (pointwise nat_eq q s.key.repo) (is_of q) refl);

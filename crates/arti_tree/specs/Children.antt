@@ -1,7 +1,10 @@
 -- The rows that lie in each folder.
-use Rattle.std.specs.Prelude.{ℕ, List, [], map, slice_index_or, Vec}
+use Rattle.std.specs.Prelude.{ℕ, List, [], Vec}
+use Rattle.std.specs.Option.{option_map_or}
+use Rattle.std.specs.Ordering.{nat_cmp}
+use Rattle.std.specs.BTreeMap.{BTreeMap, get}
 use Rattle.std.specs.declared.alloc.Global.{Global}
 
 -- the list under an id, empty where there is none
-abbrev pub list_at : Vec (Vec ℕ Global) Global → ℕ → List ℕ
-list_at children id = slice_index_or (map (λ v. v.items) children.items) id []
+abbrev pub list_at : BTreeMap ℕ (Vec ℕ Global) → ℕ → List ℕ
+list_at children id = option_map_or (λ v. v.items) (get nat_cmp children id) []

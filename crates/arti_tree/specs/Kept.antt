@@ -1,5 +1,5 @@
 -- The lists that are kept of the rows, and what each of them is.
-use Rattle.std.specs.Prelude.{◌≡◌, ℕ, ◌≤◌, Bool, List, [], ◌∷◌, length, slice_index_or, Option, Some, None, count_by, All}
+use Rattle.std.specs.Prelude.{◌≡◌, ℕ, Bool, List, [], ◌∷◌, Option, Some, None, count_by, All}
 use Rattle.std.specs.List.{filter}
 use Rattle.std.specs.declared.cmp.Ordering.TheVariants.{Less}
 use Rattle.arti_rows.specs.Key.{key_cmp}
@@ -26,10 +26,9 @@ inside rows None = []
 inside rows (Some s) = ids (filter (lies_in s.key) rows)
 
 -- each list of ids is that of the rows
-pub record Kept (slots : List (Option Slot)) (all order : List ℕ) (children : List (List ℕ)) (repos : List ℕ → List ℕ) : Type 0 where
+pub record Kept (slots : List (Option Slot)) (all order : List ℕ) (children : ℕ → List ℕ) (repos : List ℕ → List ℕ) : Type 0 where
   pub tree : IsTree (live 0 slots)
   pub all_is : all ≡ ids (live 0 slots)
   pub order_is : Ordered (live 0 slots) order
-  pub long : length slots ≤ length children
-  pub children_are : (id : ℕ) → slice_index_or children id [] ≡ inside (live 0 slots) (at slots id)
+  pub children_are : (id : ℕ) → children id ≡ inside (live 0 slots) (at slots id)
   pub repos_are : (repo : List ℕ) → repos repo ≡ ids (filter (is_of repo) (live 0 slots))

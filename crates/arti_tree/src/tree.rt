@@ -13,7 +13,7 @@ ghost use Rattle.arti_tree.specs.Renames.{AreWithin, is_within, key_for, moved_r
 use crate::TreeFault;
 use crate::ids::{add_ready, drop_id, free_id, insert_ready, push_ready};
 use crate::keys::moved_key;
-use crate::lists::{enter_both, leave_folder, make_list, shift_both};
+use crate::lists::{Children, enter_both, leave_folder, listed, shift_both};
 use crate::rekeying::rekey_all;
 use crate::repos::{Repos, ids_of, leave};
 use crate::searching::{cut, place_of};
@@ -32,12 +32,12 @@ pub struct Tree {
     // By the default order of their keys.
     order: Vec<u32>,
     // The rows that lie in each folder, by its id.
-    children: Vec<Vec<u32>>,
+    children: Children,
     repos: Repos,
 }
 
 impl Model for Tree {
-    ghost use Rattle.std.specs.Prelude.{List, map};
+    ghost use Rattle.std.specs.Prelude.{List};
     ghost use Rattle.arti_tree.specs.Rows.{Row};
 
     ghost Value = { List Row };
@@ -45,10 +45,11 @@ impl Model for Tree {
     ghost use Rattle.arti_tree.specs.Slots.{live};
     ghost use Rattle.arti_tree.specs.Kept.{Kept};
     ghost use Rattle.arti_tree.specs.Repos.{list_of};
+    ghost use Rattle.arti_tree.specs.Children.{list_at};
 
     ghost view = { λ t. live 0 t.slots.items };
 
-    ghost invariant = { λ t. Kept t.slots.items t.all.items t.order.items (map (λ v. v.items) t.children.items) (list_of t.repos) };
+    ghost invariant = { λ t. Kept t.slots.items t.all.items t.order.items (list_at t.children) (list_of t.repos) };
 }
 
 impl Tree {
@@ -60,7 +61,7 @@ impl Tree {
             slots: Vec::new(alloc),
             all: Vec::new(alloc),
             order: Vec::new(alloc),
-            children: Vec::new(alloc),
+            children: BTreeMap::new(alloc),
             repos: BTreeMap::new(alloc),
         })
     }
@@ -119,7 +120,7 @@ impl Tree {
         ensures { result.now ≡ ids (filter (lies_in key.now) self.now) }
     {
         match self.get(key) {
-            Some(id) => self.children[id as usize].as_slice(),
+            Some(id) => listed(&self.children, id),
             None => &[],
         }
     }
@@ -201,7 +202,6 @@ impl Tree {
         };
         let id = free_id(&self.all);
         make_room(&mut self.slots, &mut self.all, &mut self.order)?;
-        make_list(&mut self.children, alloc, id)?;
         enter_both(
             &mut self.children,
             &mut self.repos,
@@ -260,7 +260,7 @@ impl Tree {
         ensures { result ≡ option_map_or (λ r. is_none (find (lies_in r.key) self.now)) (row_of self.now id) false }
     {
         match slot_of(&self.slots, id) {
-            Some(_) => self.children[id as usize].is_empty(),
+            Some(_) => listed(&self.children, id).is_empty(),
             None => false,
         }
     }

@@ -1,8 +1,7 @@
-use Rattle.std.proofs.Common.{◌≡◌, ℕ, ◌+◌, ◌-◌, ◌<◌, ◌≤◌, ◌^◌, ◌⊎◌, List, length, get_or, Option, Some, None, refl, sym, ap, ◌∙◌, subst, cond, eqb, arith, rules, Less, Equal, Greater, Vec, Global}
-use Rattle.std.specs.Prelude.{IfSome, nat_eq}
+use Rattle.std.proofs.Common.{◌≡◌, ℕ, ◌+◌, ◌-◌, ◌<◌, ◌≤◌, ◌^◌, ◌⊎◌, List, length, get_or, Option, Some, None, sym, ap, ◌∙◌, subst, cond, eqb, rules, Less, Equal, Greater}
+use Rattle.std.specs.Prelude.{nat_eq}
 use Rattle.std.specs.List.{insert}
 use Rattle.std.specs.Cmp.Lexicographic.{pointwise}
-use Rattle.std.proofs.lemmas.List.{length-map}
 use Rattle.arti_rows.specs.Key.{Key, key_cmp}
 use Rattle.arti_tree.specs.declared.slot.Slot.{Slot}
 use Rattle.arti_tree.specs.Ids.{AscendFrom, Lacks, with_id}
@@ -13,10 +12,9 @@ use Rattle.arti_tree.specs.Repos.{list_of}
 use Rattle.arti_tree.specs.Children.{list_at}
 use Rattle.arti_tree.specs.Searched.{key, AllLive, RisingAt}
 use Rattle.arti_tree.proofs.Along.{to_both, from_both}
-use Rattle.arti_tree.proofs.ListsOf.{items_of}
 use Rattle.arti_tree.proofs.Looks.{all_live, rising_there, found_there}
 use Rattle.arti_tree.proofs.Growing.{Fresh, kept_more}
-use Rattle.arti_tree.proofs.Adding.{all_ascend, children_ascend, repo_ascends, free_row, free_slot, children_lack, repo_lacks, id_within, folder_within, kept_same, order_with, if_some_more}
+use Rattle.arti_tree.proofs.Adding.{all_ascend, children_ascend, repo_ascends, free_row, free_slot, children_lack, repo_lacks, id_within, kept_same, order_with}
 use Rattle.arti_tree.proofs.tree.Tree.add.Goals as goal
 
 pub place_of-requires-clause-live : goal.place_of-requires-clause-live
@@ -46,70 +44,47 @@ unreachable-requires c =
 pub free_id-id-requires-clause-ascend : goal.free_id-id-requires-clause-ascend
 free_id-id-requires-clause-ascend c =
     let t = c.self.inside in
-    subst (λ (l : List ℕ). AscendFrom 0 l) (sym c.deref-3.ensures.value) (all_ascend t.slots.items t.all.items t.order.items (items_of t.children.items) (list_of t.repos) c.self.invariant)
-
-pub make_list-requires : goal.make_list-requires
-make_list-requires c =
-    let t = c.self.inside in
-    let free = subst (λ (l : List ℕ). (c.free_id-id.result ≤ length l) × ((c.free_id-id.result ≡ 0) ⊎ (get_or l (c.free_id-id.result - 1) 0 ≡ c.free_id-id.result - 1))) c.deref-3.ensures.value (c.free_id-id.ensures.within, c.free_id-id.ensures.next) in
-    let within = id_within t.slots.items t.all.items t.order.items (items_of t.children.items) (list_of t.repos) c.self.invariant c.free_id-id.result free.0 free.1 in
-    omega (arith, within, c.self.invariant.long, length-map t.children.items (λ (v : Vec ℕ Global). v.items))
-
-pub invariant_of-self-in_err-make_list : goal.invariant_of-self-in_err-make_list
-invariant_of-self-in_err-make_list c =
-    let t = c.self.inside in
-    kept_same t.slots.items t.all.items t.order.items (items_of t.children.items) (list_of t.repos) c.self.invariant c.make_room.new.slots.items c.make_room.new.all.items c.make_room.new.order.items (items_of c.make_list.new.children.items) (list_of t.repos)
-    c.make_room.ensures.slots c.make_room.ensures.all c.make_room.ensures.order
-    (omega (arith, c.make_list.ensures.long, length-map t.children.items (λ (v : Vec ℕ Global). v.items), length-map c.make_list.new.children.items (λ (v : Vec ℕ Global). v.items))) c.make_list.ensures.same (λ q. refl)
-
-pub enter_both-requires-clause-within : goal.enter_both-requires-clause-within
-enter_both-requires-clause-within c =
-    let t = c.self.inside in
-    let rows = live 0 t.slots.items in
-    let folder : c.folder-folder.result ≡ folder_id rows c.args.key = c.folder-folder.ensures ∙ ap (λ (l : List Row). folder_id l c.args.key) (sym c.self.view_is) in
-    let within = folder_within t.slots.items t.all.items t.order.items (items_of t.children.items) (list_of t.repos) c.self.invariant c.args.key in
-    if_some_more c.folder-folder.result (length t.slots.items) (length c.make_list.new.children.items) (subst (λ (o : Option ℕ). IfSome o (λ f. f < length t.slots.items)) (sym folder) within)
-    (omega (arith, c.self.invariant.long, length-map t.children.items (λ (v : Vec ℕ Global). v.items), c.make_list.ensures.long))
+    subst (λ (l : List ℕ). AscendFrom 0 l) (sym c.deref-3.ensures.value) (all_ascend t.slots.items t.all.items t.order.items (list_at t.children) (list_of t.repos) c.self.invariant)
 
 pub enter_both-requires-clause-ascend : goal.enter_both-requires-clause-ascend
 enter_both-requires-clause-ascend c =
     let t = c.self.inside in
-    λ i. subst (λ (l : List ℕ). AscendFrom 0 l) (sym (c.make_list.ensures.same i)) (children_ascend t.slots.items t.all.items t.order.items (items_of t.children.items) (list_of t.repos) c.self.invariant i)
+    children_ascend t.slots.items t.all.items t.order.items (list_at t.children) (list_of t.repos) c.self.invariant
 
 pub enter_both-requires-clause-absent : goal.enter_both-requires-clause-absent
 enter_both-requires-clause-absent c =
     let t = c.self.inside in
     let lacks = subst (λ (l : List ℕ). Lacks l c.free_id-id.result) c.deref-3.ensures.value c.free_id-id.ensures.absent in
-    λ i. subst (λ (l : List ℕ). Lacks l c.free_id-id.result) (sym (c.make_list.ensures.same i)) (children_lack t.slots.items t.all.items t.order.items (items_of t.children.items) (list_of t.repos) c.self.invariant c.free_id-id.result i lacks)
+    λ i. (children_lack t.slots.items t.all.items t.order.items (list_at t.children) (list_of t.repos) c.self.invariant c.free_id-id.result i lacks)
 
 pub enter_both-requires-clause-repo_ascends : goal.enter_both-requires-clause-repo_ascends
 enter_both-requires-clause-repo_ascends c =
     let t = c.self.inside in
-    repo_ascends t.slots.items t.all.items t.order.items (items_of t.children.items) (list_of t.repos) c.self.invariant c.as_str-4.result.now
+    repo_ascends t.slots.items t.all.items t.order.items (list_at t.children) (list_of t.repos) c.self.invariant c.as_str-4.result.now
 
 pub enter_both-requires-clause-repo_lacks : goal.enter_both-requires-clause-repo_lacks
 enter_both-requires-clause-repo_lacks c =
     let t = c.self.inside in
     let lacks = subst (λ (l : List ℕ). Lacks l c.free_id-id.result) c.deref-3.ensures.value c.free_id-id.ensures.absent in
-    repo_lacks t.slots.items t.all.items t.order.items (items_of t.children.items) (list_of t.repos) c.self.invariant c.free_id-id.result c.as_str-4.result.now lacks
+    repo_lacks t.slots.items t.all.items t.order.items (list_at t.children) (list_of t.repos) c.self.invariant c.free_id-id.result c.as_str-4.result.now lacks
 
 pub add_ready-requires-clause-ascend : goal.add_ready-requires-clause-ascend
 add_ready-requires-clause-ascend c =
     let t = c.self.inside in
-    subst (λ (l : List ℕ). AscendFrom 0 l) (sym c.make_room.ensures.all) (all_ascend t.slots.items t.all.items t.order.items (items_of t.children.items) (list_of t.repos) c.self.invariant)
+    subst (λ (l : List ℕ). AscendFrom 0 l) (sym c.make_room.ensures.all) (all_ascend t.slots.items t.all.items t.order.items (list_at t.children) (list_of t.repos) c.self.invariant)
 
 pub fill-requires-clause-within : goal.fill-requires-clause-within
 fill-requires-clause-within c =
     let t = c.self.inside in
     let free = subst (λ (l : List ℕ). (c.free_id-id.result ≤ length l) × ((c.free_id-id.result ≡ 0) ⊎ (get_or l (c.free_id-id.result - 1) 0 ≡ c.free_id-id.result - 1))) c.deref-3.ensures.value (c.free_id-id.ensures.within, c.free_id-id.ensures.next) in
-    let within = id_within t.slots.items t.all.items t.order.items (items_of t.children.items) (list_of t.repos) c.self.invariant c.free_id-id.result free.0 free.1 in
+    let within = id_within t.slots.items t.all.items t.order.items (list_at t.children) (list_of t.repos) c.self.invariant c.free_id-id.result free.0 free.1 in
     subst (λ (l : List (Option Slot)). c.free_id-id.result ≤ length l) (sym c.make_room.ensures.slots) within
 
 pub fill-requires-clause-empty : goal.fill-requires-clause-empty
 fill-requires-clause-empty c =
     let t = c.self.inside in
     let lacks = subst (λ (l : List ℕ). Lacks l c.free_id-id.result) c.deref-3.ensures.value c.free_id-id.ensures.absent in
-    ap (λ (l : List (Option Slot)). at l c.free_id-id.result) c.make_room.ensures.slots ∙ free_slot t.slots.items t.all.items t.order.items (items_of t.children.items) (list_of t.repos) c.self.invariant c.free_id-id.result lacks
+    ap (λ (l : List (Option Slot)). at l c.free_id-id.result) c.make_room.ensures.slots ∙ free_slot t.slots.items t.all.items t.order.items (list_at t.children) (list_of t.repos) c.self.invariant c.free_id-id.result lacks
 
 pub invariant_of-self-2 : goal.invariant_of-self-2
 invariant_of-self-2 c =
@@ -125,7 +100,7 @@ invariant_of-self-2 c =
     let lacks = subst (λ (l : List ℕ). Lacks l id) c.deref-3.ensures.value c.free_id-id.ensures.absent in
     let fresh : Fresh rows (row_with id s) = record {
       is_key = c.rules.ensures;
-      no_id = free_row t.slots.items t.all.items t.order.items (items_of t.children.items) (list_of t.repos) inv id lacks;
+      no_id = free_row t.slots.items t.all.items t.order.items (list_at t.children) (list_of t.repos) inv id lacks;
       no_key = subst (λ (l : List Row). row_at l c.args.key ≡ None) (sym c.self.view_is) c.requires.absent;
       folder = subst (λ (l : List Row). HasFolder l c.args.key) (sym c.self.view_is) c.requires.folder;
       few = subst (λ (l : List Row). length l + 1 < 2 ^ 32) (sym c.self.view_is) c.requires.few;
@@ -133,30 +108,25 @@ invariant_of-self-2 c =
     let gap = from_both (λ (l : List (Option Slot)) (o : List ℕ). (c.in-Err.place ≤ length o) × ((j : ℕ) → j < c.in-Err.place → key_cmp (key_at l (get_or o j 0)) k ≡ Less) × ((j : ℕ) → c.in-Err.place ≤ j → j < length o → key_cmp (key_at l (get_or o j 0)) k ≡ Greater))
     c.deref.result.now t.slots.items c.deref-2.result.now t.order.items c.deref.ensures.value c.deref-2.ensures.value (c.in-Err.ensures.within, c.in-Err.ensures.before, c.in-Err.ensures.behind) in
     let gap_of = subst (λ (x : Key). ((j : ℕ) → j < c.in-Err.place → key_cmp (key_at t.slots.items (get_or t.order.items j 0)) x ≡ Less) × ((j : ℕ) → c.in-Err.place ≤ j → j < length t.order.items → key_cmp (key_at t.slots.items (get_or t.order.items j 0)) x ≡ Greater)) parts (gap.1, gap.2) in
-    let ordered = order_with t.slots.items t.all.items t.order.items (items_of t.children.items) (list_of t.repos) inv c.args.key id c.args.is_file c.in-Err.place gap.0 gap_of.0 gap_of.1 fresh in
+    let ordered = order_with t.slots.items t.all.items t.order.items (list_at t.children) (list_of t.repos) inv c.args.key id c.args.is_file c.in-Err.place gap.0 gap_of.0 gap_of.1 fresh in
     let order_is : c.insert_ready.new.ids.items ≡ insert t.order.items c.in-Err.place id = c.insert_ready.ensures ∙ ap (λ (l : List ℕ). insert l c.in-Err.place id) c.make_room.ensures.order in
     let room : c.make_room.new.slots.items ≡ t.slots.items = c.make_room.ensures.slots in
     let more : live 0 c.fill.new.slots.items ≡ with_row (row_with id s) rows = c.fill.ensures.more ∙ ap (λ (l : List (Option Slot)). with_row (row_with id s) (live 0 l)) room in
-    let long : length c.fill.new.slots.items ≤ length (items_of c.enter_both.new.children.items) =
-    c.fill.ensures.long (length (items_of c.enter_both.new.children.items))
-    (omega (arith, ap (λ (l : List (Option Slot)). length l) room, inv.long, c.make_list.ensures.long, c.enter_both.ensures.long, length-map t.children.items (λ (v : Vec ℕ Global). v.items), length-map c.enter_both.new.children.items (λ (v : Vec ℕ Global). v.items)))
-    (omega (arith, c.in_ok-make_list.ensures.there, c.enter_both.ensures.long, length-map c.enter_both.new.children.items (λ (v : Vec ℕ Global). v.items))) in
-    kept_more t.slots.items c.fill.new.slots.items s id t.all.items t.order.items (items_of t.children.items) (items_of c.enter_both.new.children.items) (list_of t.repos) (list_of c.enter_both.new.repos) inv fresh more
+    kept_more t.slots.items c.fill.new.slots.items s id t.all.items t.order.items (list_at t.children) (list_at c.enter_both.new.children) (list_of t.repos) (list_of c.enter_both.new.repos) inv fresh more
     (λ i. c.fill.ensures.each i ∙ ap (λ (l : List (Option Slot)). cond (eqb i id) (Some s) (at l i)) room)
-    (λ i. c.in_ok-enter_both.ensures.in_folder i ∙ ap (λ (l : List ℕ). cond (is_it c.folder-folder.result i) (with_id id l) l) (c.make_list.ensures.same i) ∙ ap (λ (o : Option ℕ). cond (is_it o i) (with_id id (list_at t.children i)) (list_at t.children i)) folder)
-    c.add_ready.new.ids.items c.insert_ready.new.ids.items (c.add_ready.ensures.items ∙ ap (with_id id) c.make_room.ensures.all) (subst (λ (o : List ℕ). Ordered (with_row (row_with id s) rows) o) (sym order_is) ordered) long
+    (λ i. c.in_ok-enter_both.ensures.in_folder i ∙ ap (λ (o : Option ℕ). cond (is_it o i) (with_id id (list_at t.children i)) (list_at t.children i)) folder)
+    c.add_ready.new.ids.items c.insert_ready.new.ids.items (c.add_ready.ensures.items ∙ ap (with_id id) c.make_room.ensures.all) (subst (λ (o : List ℕ). Ordered (with_row (row_with id s) rows) o) (sym order_is) ordered)
     (λ q. c.in_ok-enter_both.ensures.in_repo q ∙ ap (λ (r : List ℕ). cond (pointwise nat_eq q r) (with_id id (list_of t.repos q)) (list_of t.repos q)) repo)
 
 pub returns-clause-fresh : goal.returns-clause-fresh
 returns-clause-fresh c =
     let t = c.self.inside in
     let lacks = subst (λ (l : List ℕ). Lacks l c.free_id-id.result) c.deref-3.ensures.value c.free_id-id.ensures.absent in
-    subst (λ (l : List Row). row_of l c.free_id-id.result ≡ None) c.self.view_is (free_row t.slots.items t.all.items t.order.items (items_of t.children.items) (list_of t.repos) c.self.invariant c.free_id-id.result lacks)
+    subst (λ (l : List Row). row_of l c.free_id-id.result ≡ None) c.self.view_is (free_row t.slots.items t.all.items t.order.items (list_at t.children) (list_of t.repos) c.self.invariant c.free_id-id.result lacks)
 
 pub invariant_of-self-in_err-enter_both : goal.invariant_of-self-in_err-enter_both
 invariant_of-self-in_err-enter_both c =
     let t = c.self.inside in
-    kept_same t.slots.items t.all.items t.order.items (items_of t.children.items) (list_of t.repos) c.self.invariant c.make_room.new.slots.items c.make_room.new.all.items c.make_room.new.order.items (items_of c.enter_both.new.children.items) (list_of c.enter_both.new.repos)
+    kept_same t.slots.items t.all.items t.order.items (list_at t.children) (list_of t.repos) c.self.invariant c.make_room.new.slots.items c.make_room.new.all.items c.make_room.new.order.items (list_at c.enter_both.new.children) (list_of c.enter_both.new.repos)
     c.make_room.ensures.slots c.make_room.ensures.all c.make_room.ensures.order
-    (omega (arith, c.make_list.ensures.long, c.enter_both.ensures.long, length-map t.children.items (λ (v : Vec ℕ Global). v.items), length-map c.enter_both.new.children.items (λ (v : Vec ℕ Global). v.items)))
-    (λ i. c.in_err-enter_both.ensures.folders_stay i ∙ c.make_list.ensures.same i) c.in_err-enter_both.ensures.repos_stay
+    (λ i. c.in_err-enter_both.ensures.folders_stay i) c.in_err-enter_both.ensures.repos_stay

@@ -1,5 +1,5 @@
-use Rattle.std.proofs.Common.{◌≡◌, ℕ, ◌<◌, ◌≤◌, List, length, get_or, Option, Some, None, option_map, sym, ap, ◌∙◌, subst, cond, arith, rules, Less, Equal, Greater, Vec, Global}
-use Rattle.std.specs.Prelude.{IfSome, IsSome, nat_eq}
+use Rattle.std.proofs.Common.{◌≡◌, ℕ, ◌<◌, ◌≤◌, List, length, get_or, Option, Some, None, sym, ap, ◌∙◌, subst, cond, arith, rules, Less, Equal, Greater}
+use Rattle.std.specs.Prelude.{IsSome, nat_eq}
 use Rattle.std.specs.List.{find}
 use Rattle.std.specs.Cmp.Lexicographic.{pointwise}
 use Rattle.std.proofs.lemmas.List.{length-map}
@@ -13,10 +13,8 @@ use Rattle.arti_tree.specs.Repos.{list_of}
 use Rattle.arti_tree.specs.Children.{list_at}
 use Rattle.arti_tree.specs.Searched.{key, AllLive, RisingAt}
 use Rattle.arti_tree.proofs.Along.{to_both, from_both}
-use Rattle.arti_tree.proofs.ListsOf.{items_of}
-use Rattle.arti_tree.proofs.Lives.{row_of_live}
 use Rattle.arti_tree.proofs.Looks.{all_live, rising_there, found_there, missing, row_there, live_in}
-use Rattle.arti_tree.proofs.Adding.{all_ascend, children_ascend, repo_ascends, folder_within, if_some_more}
+use Rattle.arti_tree.proofs.Adding.{all_ascend, children_ascend, repo_ascends}
 use Rattle.arti_tree.proofs.Shrinking.{kept_less, order_less}
 use Rattle.arti_tree.proofs.Dropping.{no_slot, if_some_at, some_rows}
 use Rattle.arti_tree.proofs.tree.Tree.drop_row.Goals as goal
@@ -55,27 +53,17 @@ unreachable-requires-in_default-place_of c =
 pub leave-requires : goal.leave-requires
 leave-requires c =
     let t = c.self.inside in
-    repo_ascends t.slots.items t.all.items t.order.items (items_of t.children.items) (list_of t.repos) c.self.invariant c.as_str-4.result.now
+    repo_ascends t.slots.items t.all.items t.order.items (list_at t.children) (list_of t.repos) c.self.invariant c.as_str-4.result.now
 
-pub leave_folder-requires-clause-within : goal.leave_folder-requires-clause-within
-leave_folder-requires-clause-within c =
+pub leave_folder-requires : goal.leave_folder-requires
+leave_folder-requires c =
     let t = c.self.inside in
-    let s : Slot = c.in-Some.slot.now in
-    let there : at t.slots.items c.args.id ≡ Some s = ap (λ (l : List (Option Slot)). at l c.args.id) (sym c.deref.ensures.value) ∙ sym c.in-Some.ensures in
-    let row : row_of c.args.self.now c.args.id ≡ Some (row_with c.args.id s) = ap (λ (l : List Row). row_of l c.args.id) (sym c.self.view_is) ∙ row_of_live c.args.id t.slots.items ∙ ap (option_map (row_with c.args.id)) there in
-    let folder : c.folder_under-folder.result ≡ folder_id (live 0 t.slots.items) s.key = if_some_at (row_of c.args.self.now c.args.id) (row_with c.args.id s) (λ r. c.folder_under-folder.result ≡ folder_id c.args.self.now r.key) row c.folder_under-folder.ensures ∙ ap (λ (l : List Row). folder_id l s.key) (sym c.self.view_is) in
-    let within = folder_within t.slots.items t.all.items t.order.items (items_of t.children.items) (list_of t.repos) c.self.invariant s.key in
-    if_some_more c.folder_under-folder.result (length t.slots.items) (length t.children.items) (subst (λ (o : Option ℕ). IfSome o (λ f. f < length t.slots.items)) (sym folder) within) (omega (arith, c.self.invariant.long, length-map t.children.items (λ (v : Vec ℕ Global). v.items)))
-
-pub leave_folder-requires-clause-ascend : goal.leave_folder-requires-clause-ascend
-leave_folder-requires-clause-ascend c =
-    let t = c.self.inside in
-    children_ascend t.slots.items t.all.items t.order.items (items_of t.children.items) (list_of t.repos) c.self.invariant
+    children_ascend t.slots.items t.all.items t.order.items (list_at t.children) (list_of t.repos) c.self.invariant
 
 pub drop_id-requires : goal.drop_id-requires
 drop_id-requires c =
     let t = c.self.inside in
-    all_ascend t.slots.items t.all.items t.order.items (items_of t.children.items) (list_of t.repos) c.self.invariant
+    all_ascend t.slots.items t.all.items t.order.items (list_at t.children) (list_of t.repos) c.self.invariant
 
 pub invariant_of-self : goal.invariant_of-self
 invariant_of-self c =
@@ -99,9 +87,8 @@ invariant_of-self c =
     let o = inv.order_is in
     let below : i < length o.sorted = omega (arith, found.0, ap (λ (l : List ℕ). length l) o.is, length-map o.sorted (λ (r : Row). r.id)) in
     let ordered = order_less rows (row_with id s) inv.tree is_live empty t.order.items o i below at_place in
-    kept_less t.slots.items c.empty.new.slots.items s id t.all.items t.order.items (items_of t.children.items) (items_of c.leave_folder.new.children.items) (list_of t.repos) (list_of c.leave.new.repos) inv there empty
+    kept_less t.slots.items c.empty.new.slots.items s id t.all.items t.order.items (list_at t.children) (list_at c.leave_folder.new.children) (list_of t.repos) (list_of c.leave.new.repos) inv there empty
     c.empty.ensures.less c.empty.ensures.each
     (λ j. c.leave_folder.ensures.less j ∙ ap (λ (f : Option ℕ). cond (is_it f j) (without_id id (list_at t.children j)) (list_at t.children j)) folder)
     c.drop_id.new.ids.items c.remove.new.self.items c.drop_id.ensures (subst (λ (l : List ℕ). Ordered (without_row id rows) l) (sym c.remove.ensures.items) ordered)
-    (omega (arith, inv.long, c.empty.ensures.long, c.leave_folder.ensures.long, length-map t.children.items (λ (v : Vec ℕ Global). v.items), length-map c.leave_folder.new.children.items (λ (v : Vec ℕ Global). v.items)))
     (λ q. c.leave.ensures q ∙ ap (λ (r : List ℕ). cond (pointwise nat_eq q r) (without_id id (list_of t.repos q)) (list_of t.repos q)) repo)

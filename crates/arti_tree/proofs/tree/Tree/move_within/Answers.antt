@@ -1,41 +1,30 @@
-use Rattle.std.proofs.Common.{◌≡◌, ℕ, List, length, refl, sym, ap, ◌∙◌, subst, arith, rules, Vec, Global}
+use Rattle.std.proofs.Common.{◌≡◌, ℕ, List, refl, sym, ap, ◌∙◌, subst, rules}
 use Rattle.std.specs.Prelude.{map, nat_eq}
 use Rattle.std.specs.Cmp.Lexicographic.{pointwise}
-use Rattle.std.proofs.lemmas.List.{length-map}
 use Rattle.arti_tree.specs.Slots.{live}
 use Rattle.arti_tree.specs.Renames.{moved_row, rekeyed_all, CanRekey}
 use Rattle.arti_tree.specs.Repos.{list_of}
 use Rattle.arti_tree.specs.Shifts.{AreNew, shifted}
 use Rattle.arti_tree.proofs.Along.{to_both}
-use Rattle.arti_tree.proofs.ListsOf.{items_of}
 use Rattle.arti_tree.proofs.Adding.{children_ascend, repo_ascends, kept_same}
-use Rattle.arti_tree.proofs.Renaming.{folder_list, absent_list, absent_repo, can_all, rows_moved, kept_after}
+use Rattle.arti_tree.proofs.Renaming.{absent_list, absent_repo, can_all, rows_moved, kept_after}
+use Rattle.arti_tree.specs.Children.{list_at}
 use Rattle.arti_tree.proofs.tree.Tree.move_within.Goals as goal
-
-pub shift_both-requires-clause-leaves : goal.shift_both-requires-clause-leaves
-shift_both-requires-clause-leaves c =
-    let t = c.self.inside in
-    folder_list t.slots.items t.all.items t.order.items (items_of t.children.items) (list_of t.repos) c.self.invariant c.args.self.now c.self.view_is c.args.id c.args.from.now c.args.to.now c.rules.ensures c.rules-2.ensures c.requires.live c.requires.absent c.requires.folder c.requires.apart c.requires.keys c.find_within.new.found.items c.in_ok-find_within.ensures.ids c.args.from.now c.folder.result (length t.children.items) c.folder.ensures (sym (length-map t.children.items (λ (v : Vec ℕ Global). v.items)))
-
-pub shift_both-requires-clause-enters : goal.shift_both-requires-clause-enters
-shift_both-requires-clause-enters c =
-    let t = c.self.inside in
-    folder_list t.slots.items t.all.items t.order.items (items_of t.children.items) (list_of t.repos) c.self.invariant c.args.self.now c.self.view_is c.args.id c.args.from.now c.args.to.now c.rules.ensures c.rules-2.ensures c.requires.live c.requires.absent c.requires.folder c.requires.apart c.requires.keys c.find_within.new.found.items c.in_ok-find_within.ensures.ids c.args.to.now c.folder-2.result (length t.children.items) c.folder-2.ensures (sym (length-map t.children.items (λ (v : Vec ℕ Global). v.items)))
 
 pub shift_both-requires-clause-ascend : goal.shift_both-requires-clause-ascend
 shift_both-requires-clause-ascend c =
     let t = c.self.inside in
-    children_ascend t.slots.items t.all.items t.order.items (items_of t.children.items) (list_of t.repos) c.self.invariant
+    children_ascend t.slots.items t.all.items t.order.items (list_at t.children) (list_of t.repos) c.self.invariant
 
 pub shift_both-requires-clause-absent : goal.shift_both-requires-clause-absent
 shift_both-requires-clause-absent c =
     let t = c.self.inside in
-    absent_list t.slots.items t.all.items t.order.items (items_of t.children.items) (list_of t.repos) c.self.invariant c.args.self.now c.self.view_is c.args.id c.args.from.now c.args.to.now c.rules.ensures c.rules-2.ensures c.requires.live c.requires.absent c.requires.folder c.requires.apart c.requires.keys c.find_within.new.found.items c.in_ok-find_within.ensures.ids c.folder.result c.folder.ensures
+    absent_list t.slots.items t.all.items t.order.items (list_at t.children) (list_of t.repos) c.self.invariant c.args.self.now c.self.view_is c.args.id c.args.from.now c.args.to.now c.rules.ensures c.rules-2.ensures c.requires.live c.requires.absent c.requires.folder c.requires.apart c.requires.keys c.find_within.new.found.items c.in_ok-find_within.ensures.ids c.folder.result c.folder.ensures
 
 pub shift_both-requires-clause-repos_ascend : goal.shift_both-requires-clause-repos_ascend
 shift_both-requires-clause-repos_ascend c =
     let t = c.self.inside in
-    repo_ascends t.slots.items t.all.items t.order.items (items_of t.children.items) (list_of t.repos) c.self.invariant
+    repo_ascends t.slots.items t.all.items t.order.items (list_at t.children) (list_of t.repos) c.self.invariant
 
 pub shift_both-requires-clause-repos_lack : goal.shift_both-requires-clause-repos_lack
 shift_both-requires-clause-repos_lack c =
@@ -43,19 +32,18 @@ shift_both-requires-clause-repos_lack c =
     let from_repo : c.as_str.result.now ≡ c.args.from.now.repo = search rules in
     let to_repo : c.as_str-2.result.now ≡ c.args.to.now.repo = search rules in
     λ e. to_both AreNew (list_of t.repos c.as_str-2.result.now) (list_of t.repos c.args.to.now.repo) c.deref.result.now c.find_within.new.found.items (ap (list_of t.repos) to_repo) c.deref.ensures.value
-    (absent_repo t.slots.items t.all.items t.order.items (items_of t.children.items) (list_of t.repos) c.self.invariant c.args.self.now c.self.view_is c.args.id c.args.from.now c.args.to.now c.rules.ensures c.rules-2.ensures c.requires.live c.requires.absent c.requires.folder c.requires.apart c.requires.keys c.find_within.new.found.items c.in_ok-find_within.ensures.ids (ap (λ (q : List ℕ). pointwise nat_eq q c.args.to.now.repo) (sym from_repo) ∙ ap (λ (q : List ℕ). pointwise nat_eq c.as_str.result.now q) (sym to_repo) ∙ e))
+    (absent_repo t.slots.items t.all.items t.order.items (list_at t.children) (list_of t.repos) c.self.invariant c.args.self.now c.self.view_is c.args.id c.args.from.now c.args.to.now c.rules.ensures c.rules-2.ensures c.requires.live c.requires.absent c.requires.folder c.requires.apart c.requires.keys c.find_within.new.found.items c.in_ok-find_within.ensures.ids (ap (λ (q : List ℕ). pointwise nat_eq q c.args.to.now.repo) (sym from_repo) ∙ ap (λ (q : List ℕ). pointwise nat_eq c.as_str.result.now q) (sym to_repo) ∙ e))
 
 pub invariant_of-self : goal.invariant_of-self
 invariant_of-self c =
     let t = c.self.inside in
-    kept_same t.slots.items t.all.items t.order.items (items_of t.children.items) (list_of t.repos) c.self.invariant t.slots.items t.all.items t.order.items (items_of c.shift_both.new.children.items) (list_of c.shift_both.new.repos) refl refl refl
-    (omega (arith, c.shift_both.ensures.long, length-map t.children.items (λ (v : Vec ℕ Global). v.items), length-map c.shift_both.new.children.items (λ (v : Vec ℕ Global). v.items)))
+    kept_same t.slots.items t.all.items t.order.items (list_at t.children) (list_of t.repos) c.self.invariant t.slots.items t.all.items t.order.items (list_at c.shift_both.new.children) (list_of c.shift_both.new.repos) refl refl refl
     (λ i. c.in_err-shift_both.ensures.folders_stay i) c.in_err-shift_both.ensures.repos_stay
 
 pub rekey_all-requires-clause-can : goal.rekey_all-requires-clause-can
 rekey_all-requires-clause-can c =
     let t = c.self.inside in
-    subst (λ (l : List ℕ). CanRekey (live 0 t.slots.items) l c.find_within.new.keys.items) (sym c.deref-2.ensures.value) (can_all t.slots.items t.all.items t.order.items (items_of t.children.items) (list_of t.repos) c.self.invariant c.args.self.now c.self.view_is c.args.id c.args.from.now c.args.to.now c.rules.ensures c.rules-2.ensures c.requires.live c.requires.absent c.requires.folder c.requires.apart c.requires.keys c.find_within.new.found.items c.in_ok-find_within.ensures.ids c.find_within.new.keys.items c.in_ok-find_within.ensures.keys)
+    subst (λ (l : List ℕ). CanRekey (live 0 t.slots.items) l c.find_within.new.keys.items) (sym c.deref-2.ensures.value) (can_all t.slots.items t.all.items t.order.items (list_at t.children) (list_of t.repos) c.self.invariant c.args.self.now c.self.view_is c.args.id c.args.from.now c.args.to.now c.rules.ensures c.rules-2.ensures c.requires.live c.requires.absent c.requires.folder c.requires.apart c.requires.keys c.find_within.new.found.items c.in_ok-find_within.ensures.ids c.find_within.new.keys.items c.in_ok-find_within.ensures.keys)
 
 pub invariant_of-self-2 : goal.invariant_of-self-2
 invariant_of-self-2 c =
@@ -64,9 +52,8 @@ invariant_of-self-2 c =
     let to_repo : c.as_str-2.result.now ≡ c.args.to.now.repo = search rules in
     let rows_are : live 0 c.rekey_all.new.slots.items ≡ rekeyed_all c.find_within.new.found.items c.find_within.new.keys.items (live 0 t.slots.items) =
     c.rekey_all.ensures.rows ∙ ap (λ (l : List ℕ). rekeyed_all l c.find_within.new.keys.items (live 0 t.slots.items)) c.deref-2.ensures.value in
-    kept_after t.slots.items t.all.items t.order.items (items_of t.children.items) (list_of t.repos) c.self.invariant c.args.self.now c.self.view_is c.args.id c.args.from.now c.args.to.now c.rules.ensures c.rules-2.ensures c.requires.live c.requires.absent c.requires.folder c.requires.apart c.requires.keys c.find_within.new.found.items c.in_ok-find_within.ensures.ids c.find_within.new.keys.items c.in_ok-find_within.ensures.keys c.rekey_all.new.slots.items c.rekey_all.new.order.items (items_of c.shift_both.new.children.items) (list_of c.shift_both.new.repos)
+    kept_after t.slots.items t.all.items t.order.items (list_at t.children) (list_of t.repos) c.self.invariant c.args.self.now c.self.view_is c.args.id c.args.from.now c.args.to.now c.rules.ensures c.rules-2.ensures c.requires.live c.requires.absent c.requires.folder c.requires.apart c.requires.keys c.find_within.new.found.items c.in_ok-find_within.ensures.ids c.find_within.new.keys.items c.in_ok-find_within.ensures.keys c.rekey_all.new.slots.items c.rekey_all.new.order.items (list_at c.shift_both.new.children) (list_of c.shift_both.new.repos)
     c.folder.result c.folder-2.result c.folder.ensures c.folder-2.ensures rows_are c.rekey_all.ensures.order
-    (omega (arith, c.rekey_all.ensures.long, c.shift_both.ensures.long, c.self.invariant.long, length-map t.children.items (λ (v : Vec ℕ Global). v.items), length-map c.shift_both.new.children.items (λ (v : Vec ℕ Global). v.items)))
     (λ i. c.in_ok-shift_both.ensures.folders i)
     (λ q. c.in_ok-shift_both.ensures.repos q ∙ ap (λ (r : List ℕ). shifted (pointwise nat_eq q r) (pointwise nat_eq q c.as_str-2.result.now) c.deref.result.now (list_of t.repos q)) from_repo
     ∙ ap (λ (r : List ℕ). shifted (pointwise nat_eq q c.args.from.now.repo) (pointwise nat_eq q r) c.deref.result.now (list_of t.repos q)) to_repo
@@ -77,4 +64,4 @@ returns-clause-moved c =
     let t = c.self.inside in
     let rows_are : live 0 c.rekey_all.new.slots.items ≡ rekeyed_all c.find_within.new.found.items c.find_within.new.keys.items (live 0 t.slots.items) =
     c.rekey_all.ensures.rows ∙ ap (λ (l : List ℕ). rekeyed_all l c.find_within.new.keys.items (live 0 t.slots.items)) c.deref-2.ensures.value in
-    rows_moved t.slots.items t.all.items t.order.items (items_of t.children.items) (list_of t.repos) c.self.invariant c.args.self.now c.self.view_is c.args.id c.args.from.now c.args.to.now c.rules.ensures c.rules-2.ensures c.requires.live c.requires.absent c.requires.folder c.requires.apart c.requires.keys c.find_within.new.found.items c.in_ok-find_within.ensures.ids c.find_within.new.keys.items (live 0 c.rekey_all.new.slots.items) c.in_ok-find_within.ensures.keys rows_are ∙ ap (map (moved_row c.args.from.now c.args.to.now)) c.self.view_is
+    rows_moved t.slots.items t.all.items t.order.items (list_at t.children) (list_of t.repos) c.self.invariant c.args.self.now c.self.view_is c.args.id c.args.from.now c.args.to.now c.rules.ensures c.rules-2.ensures c.requires.live c.requires.absent c.requires.folder c.requires.apart c.requires.keys c.find_within.new.found.items c.in_ok-find_within.ensures.ids c.find_within.new.keys.items (live 0 c.rekey_all.new.slots.items) c.in_ok-find_within.ensures.keys rows_are ∙ ap (map (moved_row c.args.from.now c.args.to.now)) c.self.view_is
