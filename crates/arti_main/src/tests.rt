@@ -3,11 +3,12 @@ ghost use Rattle.std.specs.Prelude.{◌≡◌, ◌<◌};
 
 use crate::real_ground::RealGround;
 use crate::top::{Status, run};
-use arti_ground::{Failed, Ground, ListClock, ListUpstream, MemoryGround, MemorySource, Steps};
+use arti_ground::{
+    Failed, FaultyGround, Ground, ListClock, ListUpstream, MemoryGround, MemorySource, Steps,
+};
 use arti_rows::Limits;
 use std::alloc::{AllocError, Global};
 use std::marker::Brand;
-use std::process::Abort;
 use std::sync::ledger::{Blank, Ledger};
 use std::test::Fail;
 
@@ -31,6 +32,36 @@ fn words_of(alloc: Global, words: &[&str]) -> Result<Vec<String>, AllocError> {
     Ok(owned)
 }
 
+// Runs the words over the files of the ground, and gives the status.
+fn run_on<G: Ground, L: Ledger>(
+    rt: &HostRuntime,
+    words: &[&str],
+    ground: &mut G,
+    mut source: MemorySource,
+    blank: Blank,
+) -> Result<Status, AllocError>
+    requires name { blank.name ≡ L.name }
+    requires parts { blank.parts ≡ L.parts }
+    requires some { 0 < blank.parts }
+{
+    let alloc = rt.alloc();
+    let mut upstream = ListUpstream::new(Vec::new(alloc));
+    let mut clock = ListClock::new(Vec::new(alloc));
+    let mut steps = Steps::<L>::open(blank);
+    let words = words_of(alloc, words)?;
+    Ok(run(
+        rt,
+        alloc,
+        &words,
+        &Limits::standard(),
+        ground,
+        &mut source,
+        &mut upstream,
+        &mut clock,
+        &mut steps,
+    ))
+}
+
 // What a run told on a new store, and its status. Each of the first reads takes that many bytes.
 fn told_by<L: Ledger>(
     rt: &HostRuntime,
@@ -46,23 +77,15 @@ fn told_by<L: Ledger>(
 {
     let alloc = rt.alloc();
     let mut ground = MemoryGround::new(alloc, 100, 10_000)?;
-    let mut source = MemorySource::new(input, sizes, Vec::new(alloc));
-    let mut upstream = ListUpstream::new(Vec::new(alloc));
-    let mut clock = ListClock::new(Vec::new(alloc));
-    let mut steps = Steps::<L>::open(blank);
-    let words = words_of(alloc, words)?;
-    let status = run(
-        rt,
-        alloc,
-        &words,
-        &Limits::standard(),
-        &mut ground,
-        &mut source,
-        &mut upstream,
-        &mut clock,
-        &mut steps,
-    );
+    let source = MemorySource::new(input, sizes, Vec::new(alloc));
+    let status = run_on::<MemoryGround, L>(rt, words, &mut ground, source, blank)?;
     Ok((ground.told(alloc, 0)?, status))
+}
+
+// A source that gives these bytes.
+fn source_of(alloc: Global, bytes: &[u8]) -> Result<MemorySource, AllocError> {
+    let bytes = bytes.to_vec(alloc)?;
+    Ok(MemorySource::new(bytes, Vec::new(alloc), Vec::new(alloc)))
 }
 
 ghost use Rattle.std.specs.Prelude.{◌≤◌, All};
@@ -236,6 +259,112 @@ fn queries_and_hostile_requests(rt: HostRuntime) -> Result<(), Fail> {
         let (told, ended) = told_by::<Brand>(&rt, REPLAY, input, Vec::new(alloc), Blank::new(1))?;
         assert!(&rt; ended == *status);
         assert!(&rt; told.as_slice() == want.as_slice());
+    }
+    Ok(())
+}
+
+const NOT_FOUND: &[u8] =
+    b"HTTP/1.1 404 Not Found\r\nContent-Type: application/json\r\nContent-Length: 71\r\n\r\n{\"errors\":[{\"status\":404,\"message\":\"NotFound: generic-local/a/b.txt\"}]}";
+
+#[test]
+fn files_that_are_no_store(rt: HostRuntime) -> Result<(), Fail> {
+    let alloc = rt.alloc();
+    // A journal that was there before, the status, and what is told.
+    let table: &[(&[u8], Status, &[u8])] = &[
+        (b"", Status::Ok, NOT_FOUND),
+        (b"ARTIJNL1\x01\0\0\0\0\0\0\0\0", Status::Ok, NOT_FOUND),
+        (b"of something else.", Status::NotAStore, b""),
+        (b"ARTIJNL0\x01\0\0\0\0\0\0\0\0\0", Status::NotAStore, b""),
+    ];
+    for (journal, wanted, told) in table {
+        let mut ground = MemoryGround::new(alloc, 100, 10_000)?;
+        let written = ground.write_at(1, 0, journal);
+        assert!(&rt; written == Ok(()));
+        let source = source_of(alloc, GET)?;
+        let status = run_on::<MemoryGround, Brand>(
+            &rt,
+            REPLAY,
+            &mut ground,
+            source,
+            Blank::new(1),
+        )?;
+        assert!(&rt; status == *wanted);
+        assert!(&rt; ground.told(alloc, 0)?.as_slice() == *told);
+    }
+    Ok(())
+}
+
+#[test]
+fn each_call_fails_in_turn(rt: HostRuntime) -> Result<(), Fail> {
+    let alloc = rt.alloc();
+    let mut disk_faults = 0u64;
+    let mut tell_faults = 0u64;
+    for number in 0..40u64 {
+        let failing = [number].to_vec(alloc)?;
+        let mut ground = FaultyGround::new(alloc, 100, 10_000, failing)?;
+        let source = source_of(alloc, PUT)?;
+        let status = run_on::<FaultyGround, Brand>(
+            &rt,
+            REPLAY,
+            &mut ground,
+            source,
+            Blank::new(1),
+        )?;
+        let mut told = ground.told(alloc, 0)?;
+        let source = source_of(alloc, GET)?;
+        let again = run_on::<FaultyGround, Brand>(&rt, REPLAY, &mut ground, source, Blank::new(1))?;
+        let behind = ground.told(alloc, 0)?;
+        match status {
+            Status::Ok => assert!(&rt; told.as_slice() == CREATED),
+            Status::DiskFault => {
+                disk_faults = disk_faults.saturating_add(1);
+                assert!(&rt; told.is_empty());
+                assert!(&rt; behind.as_slice() == FETCHED || behind.as_slice() == NOT_FOUND);
+            }
+            Status::TellFault => {
+                tell_faults = tell_faults.saturating_add(1);
+                assert!(&rt; told.is_empty());
+                assert!(&rt; behind.as_slice() == FETCHED);
+            }
+            _ => assert!(&rt; false),
+        }
+        if again == Status::Ok && status == Status::Ok {
+            told.extend_from_slice(FETCHED)?;
+            assert!(&rt; behind.as_slice() == told.as_slice());
+        }
+    }
+    assert!(&rt; disk_faults > 4);
+    assert!(&rt; tell_faults == 1);
+    Ok(())
+}
+
+#[test]
+fn first_deploy_stopped_at_each_moment(rt: HostRuntime) -> Result<(), Fail> {
+    let alloc = rt.alloc();
+    let mut ground = MemoryGround::new(alloc, 100, 10_000)?;
+    let source = source_of(alloc, PUT)?;
+    run_on::<MemoryGround, Brand>(&rt, REPLAY, &mut ground, source, Blank::new(1))?;
+    assert!(&rt; ground.told(alloc, 0)?.as_slice() == CREATED);
+    // The moment behind which the reply to the deploy was told.
+    let created = ground.moments();
+    let source = source_of(alloc, GET)?;
+    run_on::<MemoryGround, Brand>(&rt, REPLAY, &mut ground, source, Blank::new(1))?;
+    for moment in 0..ground.moments() {
+        for choice in [0u64, 1, 2] {
+            let mut after = ground.after_crash(alloc, moment, choice)?;
+            let source = source_of(alloc, GET)?;
+            let status = run_on::<MemoryGround, Brand>(
+                &rt,
+                REPLAY,
+                &mut after,
+                source,
+                Blank::new(1),
+            )?;
+            assert!(&rt; status == Status::Ok);
+            let told = after.told(alloc, 0)?;
+            let is_fetched = told.as_slice() == FETCHED;
+            assert!(&rt; is_fetched || (moment + 1 < created && told.as_slice() == NOT_FOUND));
+        }
     }
     Ok(())
 }

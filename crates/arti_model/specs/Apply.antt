@@ -15,8 +15,7 @@ use Rattle.arti_rows.specs.declared.edits.Change.{Change}
 use Rattle.arti_rows.specs.declared.refusal.Refusal.{Refusal}
 use Rattle.arti_rows.specs.declared.refusal.Refusal.TheVariants.{NoRepo, FileAbove, FolderHere, FileHere, NotFound, Full, NotYet}
 use Rattle.arti_rows.specs.declared.refusal.Which.TheVariants.{Items}
-use Rattle.arti_model.specs.Store.{Repository, Item, File, opening, find_item, has_file, has_item, same_key, put_items}
-use Rattle.arti_model.specs.Step.{local_key, new_folder, missing_folders}
+use Rattle.arti_model.specs.Store.{Repository, Item, File, opening, find_item, has_file, has_item, same_key, put_items, local_key, new_folder, missing_folders}
 
 -- what a store has: its repository, and the contents that are kept with their digests, no pair twice, in the order of keeping
 pub record Holding : Type 0 where

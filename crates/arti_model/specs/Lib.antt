@@ -3,6 +3,8 @@ pub mod Replies
 pub mod Bodies
 pub mod Store
 pub mod Query
-pub mod Step
 pub mod Apply
+pub mod Deploys
+pub mod Stock
+pub mod Step
 pub mod Run

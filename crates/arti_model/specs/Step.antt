@@ -1,24 +1,25 @@
--- What one request does to a repository, and its reply (of this project, after the REST API of JFrog Artifactory).
-use Rattle.std.specs.Prelude.{ℕ, ◌+◌, ℤ, Bool, false, not, ◌&&◌, ◌||◌, nat_eq, nat_le, nat_lt, if◌then◌else◌, List, [], ◌∷◌, ◌++◌, length, map, filter, drop, codes, decimal, Option, Some, None, is_none}
+-- What one request does to a store, and its reply (of this project, after the REST API of JFrog Artifactory).
+use Rattle.std.specs.Prelude.{ℕ, ◌+◌, ℤ, Bool, not, ◌&&◌, ◌||◌, nat_eq, nat_le, nat_lt, if◌then◌else◌, List, [], ◌∷◌, ◌++◌, length, drop, codes, decimal, Option, Some, None, is_none, is_some, option_and_then}
 use Rattle.std.specs.List.{list_any, list_all, starts_with}
 use Rattle.std.specs.Cmp.Lexicographic.{pointwise}
 use Rattle.md5.specs.Md5.{md5}
 use Rattle.sha1.specs.Sha1.{sha1}
 use Rattle.sha2.specs.Sha256.{sha256}
-use Rattle.arti_rows.specs.Key.{Key, key_of, folders_above}
+use Rattle.arti_rows.specs.Key.{Key, key_of}
 use Rattle.arti_rows.specs.Names.{is_repo_byte, path_fault}
 use Rattle.arti_rows.specs.declared.limits.Limits.{Limits}
 use Rattle.arti_rows.specs.declared.rows.Digests.{Digests}
+use Rattle.arti_rows.specs.declared.rows.SomeDigests.{SomeDigests}
+use Rattle.arti_rows.specs.declared.edits.Edit.TheVariants as edits
+use Rattle.arti_rows.specs.declared.edits.Change.{Change}
 use Rattle.std.specs.Str.{str_eq_ignore_ascii_case}
 use Rattle.arti_model.specs.Requests.{Request, Whole, FieldText}
-use Rattle.arti_model.specs.Store.{Repository, Item, File, find_item, has_file, has_item, put_items}
+use Rattle.arti_model.specs.Store.{Repository, Item, File, find_item, local_key}
 use Rattle.arti_model.specs.Query.{all_in, query_text, thin_key, thin_end}
 use Rattle.arti_model.specs.Bodies.{refused, refused_head, json_reply, deploy_body, content_reply, item_text}
-
--- a repository after a request, and the reply
-pub record Answer : Type 0 where
-  pub repository : Repository
-  pub reply : List ℕ
+use Rattle.arti_model.specs.Apply.{deployed, file_above, has_folder, added_with, passes_limit}
+use Rattle.arti_model.specs.Deploys.{bad_header, wanted_digests, is_checksum_deploy, lacks_digest, given_of, mismatch, file_with}
+use Rattle.arti_model.specs.Stock.{Stock, Answer, unchanged, reference_to, accept}
 
 -- ---- what is asked
 
@@ -26,20 +27,25 @@ pub record Answer : Type 0 where
 abbrev pub has_field : List FieldText → List ℕ → Bool
 has_field fields name = list_any (λ (f : FieldText). str_eq_ignore_ascii_case f.0 name) fields
 
--- fields whose meaning isn't built yet
-abbrev pub unbuilt_fields : List (List ℕ)
-unbuilt_fields =
-    codes "X-Arti-User" ∷ codes "X-Checksum-Deploy" ∷ codes "X-Checksum-Sha1" ∷ codes "X-Checksum-Sha256" ∷ codes "X-Checksum-Md5" ∷ []
+-- the method is that one
+abbrev pub has_method : Request → List ℕ → Bool
+has_method q method = pointwise nat_eq q.method method
 
--- the request has none of them
+-- a field whose meaning isn't built yet for any request, and those that are built for a deploy alone
+abbrev pub unbuilt_field : List ℕ
+unbuilt_field = codes "X-Arti-User"
+
+abbrev pub deploy_fields : List (List ℕ)
+deploy_fields =
+    codes "X-Checksum-Deploy" ∷ codes "X-Checksum-Sha1" ∷ codes "X-Checksum-Sha256" ∷ codes "X-Checksum-Md5" ∷ []
+
+-- the request has no field whose meaning isn't built yet for it
 abbrev pub is_plain : Request → Bool
-is_plain q = not (list_any (has_field q.fields) unbuilt_fields)
+is_plain q =
+    not (has_field q.fields unbuilt_field)
+    && (has_method q (codes "PUT") || not (list_any (has_field q.fields) deploy_fields))
 
--- the repository that there is
-abbrev pub local_key : List ℕ
-local_key = codes "generic-local"
-
--- what a target of that repository begins with
+-- what a target of the one repository begins with
 abbrev pub local_front : List ℕ
 local_front = codes "/generic-local/"
 
@@ -61,11 +67,21 @@ target_item target =
 abbrev pub item_asked : Request → Option Key
 item_asked q = if is_plain q then target_item q.target else None
 
--- the method is that one
-abbrev pub has_method : Request → List ℕ → Bool
-has_method q method = pointwise nat_eq q.method method
+-- ---- answers that change nothing
 
--- ---- effects
+-- a request that isn't built yet
+abbrev pub not_yet : Stock → Answer
+not_yet s = unchanged s (refused 501 (codes "NotYet"))
+
+-- a HEAD, none of which is built yet
+abbrev pub head_not_yet : Stock → Answer
+head_not_yet s = unchanged s (refused_head 501 (codes "NotYet"))
+
+-- the answer to a request of a form that isn't built yet
+abbrev pub not_built : Request → Stock → Answer
+not_built q s = if has_method q (codes "HEAD") then head_not_yet s else not_yet s
+
+-- ---- deploys
 
 -- the user of a request that names none
 abbrev pub anonymous : List ℕ
@@ -75,82 +91,82 @@ anonymous = codes "anonymous"
 abbrev pub digests_of : List ℕ → Digests
 digests_of content = record { md5 = md5 content; sha1 = sha1 content; sha256 = sha256 content }
 
--- a folder that is made
-abbrev pub new_folder : ℤ → List ℕ → Key → Item
-new_folder moment user key = record {
-  key = key;
-  created = moment;
-  created_by = user;
-  modified = moment;
-  modified_by = user;
-  updated = moment;
-  given = record { md5 = false; sha1 = false; sha256 = false };
-  file = None;
-  props = [];
-  stat = None;
+-- a content with the digests of its own
+abbrev pub file_of_body : List ℕ → File
+file_of_body body = record { content = body; digests = digests_of body }
+
+-- the change of a deploy
+abbrev pub deploy_change : Stock → ℤ → Key → SomeDigests → File → Change
+deploy_change s moment key wanted file = record {
+  moment = moment;
+  user = anonymous;
+  edits = edits.File key (given_of wanted) (reference_to file s.holding.kept) [] ∷ [];
 }
 
--- a file that is deployed where nothing was
-abbrev pub new_file : ℤ → List ℕ → Key → File → Item
-new_file moment user key file = record (new_folder moment user key) { file = Some file }
+-- the item that a deploy makes
+abbrev pub deployed_item : Stock → ℤ → Key → SomeDigests → File → Item
+deployed_item s moment key wanted file =
+    deployed moment anonymous key (given_of wanted) file [] (find_item s.holding.repository.items key)
 
--- the folders above a key that aren't there
-abbrev pub missing_folders : List Item → Key → List Key
-missing_folders items key = filter (λ folder. not (has_item items folder)) (folders_above key)
+-- a deploy of that content; one that would pass the limit of items isn't built yet
+unfoldable pub deploy_file : Limits → Stock → ℤ → Key → SomeDigests → File → Answer
+deploy_file limits s moment key wanted file =
+    let items = s.holding.repository.items in
+    if passes_limit limits items (added_with items key) then not_yet s
+    else accept limits s (λ ref. file) (deploy_change s moment key wanted file) (json_reply 201 (deploy_body (deployed_item s moment key wanted file) file))
 
--- the items with a new file and the folders above it that were missing
-abbrev pub with_file : List Item → ℤ → List ℕ → Key → File → List Item
-with_file items moment user key file =
-    put_items (map (new_folder moment user) (missing_folders items key) ++ new_file moment user key file ∷ []) items
+-- a deploy of the content that was found, if one was
+abbrev pub deploy_found : Limits → Stock → ℤ → Key → SomeDigests → Option File → Answer
+deploy_found limits s moment key wanted None = unchanged s (refused 404 (codes "NoContent"))
+deploy_found limits s moment key wanted (Some file) = deploy_file limits s moment key wanted file
 
--- nothing is there, no file stands above, and the limit of items isn't passed
-abbrev pub can_deploy : Limits → List Item → Key → Bool
-can_deploy limits items key =
-    not (has_item items key) && not (list_any (has_file items) (folders_above key))
-    && nat_le (length items + length (missing_folders items key) + 1) limits.items
+-- a deploy of the content that was sent, unless a digest is another one
+abbrev pub deploy_sent : Limits → Stock → ℤ → Key → SomeDigests → List ℕ → Option (List ℕ) → Answer
+deploy_sent limits s moment key wanted body (Some word) = unchanged s (refused 409 (codes "ChecksumMismatch: " ++ word))
+deploy_sent limits s moment key wanted body None = deploy_file limits s moment key wanted (file_of_body body)
 
--- ---- answers
+-- no file may stand above, and no folder at the key: the refusals aren't built yet
+abbrev pub is_barred : List Item → Key → Bool
+is_barred items key = is_some (file_above items key) || has_folder items key
 
--- nothing changes
-abbrev pub unchanged : Repository → List ℕ → Answer
-unchanged r reply = record { repository = r; reply = reply }
+-- a deploy whose fields are well formed
+abbrev pub deploy_with : Limits → Stock → ℤ → Key → SomeDigests → Bool → List ℕ → Answer
+deploy_with limits s moment key wanted checksum body =
+    if is_barred s.holding.repository.items key then not_yet s else (
+    if checksum then deploy_found limits s moment key wanted (file_with wanted s.holding.repository.items)
+    else deploy_sent limits s moment key wanted body (mismatch wanted (digests_of body)))
 
--- a request that isn't built yet
-abbrev pub not_yet : Repository → Answer
-not_yet r = unchanged r (refused 501 (codes "NotYet"))
+-- a deploy, where that is the name of the first digest field that is malformed
+abbrev pub deploy_by : Limits → Stock → ℤ → Key → List FieldText → List ℕ → Option (List ℕ) → Answer
+deploy_by limits s moment key fields body (Some name) = unchanged s (refused 400 (codes "BadHeader: " ++ name))
+deploy_by limits s moment key fields body None =
+    if is_checksum_deploy fields && lacks_digest (wanted_digests fields) then unchanged s (refused 400 (codes "ChecksumMissing"))
+    else deploy_with limits s moment key (wanted_digests fields) (is_checksum_deploy fields) body
 
--- a HEAD, none of which is built yet
-abbrev pub head_not_yet : Repository → Answer
-head_not_yet r = unchanged r (refused_head 501 (codes "NotYet"))
+abbrev pub deploy : Limits → Stock → ℤ → Key → List FieldText → List ℕ → Answer
+deploy limits s moment key fields body = deploy_by limits s moment key fields body (bad_header fields)
 
--- the answer to a request of a form that isn't built yet
-abbrev pub not_built : Request → Repository → Answer
-not_built q r = if has_method q (codes "HEAD") then head_not_yet r else not_yet r
-
-abbrev pub deploy : Limits → Repository → ℤ → Key → List ℕ → Answer
-deploy limits r moment key content =
-    let file : File = record { content = content; digests = digests_of content } in
-    if can_deploy limits r.items key then record {
-      repository = record { items = with_file r.items moment anonymous key file };
-      reply = json_reply 201 (deploy_body (new_file moment anonymous key file) file);
-    } else not_yet r
+-- ---- fetches
 
 -- the refusal of an item that isn't there
 abbrev pub not_found : Key → List ℕ
 not_found key = refused 404 (codes "NotFound: " ++ item_text key)
 
--- a file's content; a folder has none
-abbrev pub fetched_file : Key → Option File → List ℕ
-fetched_file key None = not_found key
-fetched_file key (Some file) = content_reply file
+-- the file of a key; a folder is none
+abbrev pub file_at : List Item → Key → Option File
+file_at items key = option_and_then (λ (item : Item). item.file) (find_item items key)
 
--- the reply with the file of an item, or the refusal where there is none
-abbrev pub fetched : Key → Option Item → List ℕ
-fetched key None = not_found key
-fetched key (Some item) = fetched_file key item.file
+-- the change of a fetch
+abbrev pub fetch_change : ℤ → Key → Change
+fetch_change moment key = record { moment = moment; user = anonymous; edits = edits.Downloaded key ∷ [] }
 
-abbrev pub fetch : Repository → Key → Answer
-fetch r key = unchanged r (fetched key (find_item r.items key))
+-- a fetch where that is the file
+abbrev pub fetch_found : Limits → Stock → ℤ → Key → Option File → Answer
+fetch_found limits s moment key None = unchanged s (not_found key)
+fetch_found limits s moment key (Some file) = accept limits s (λ ref. file) (fetch_change moment key) (content_reply file)
+
+abbrev pub fetch : Limits → Stock → ℤ → Key → Answer
+fetch limits s moment key = fetch_found limits s moment key (file_at s.holding.repository.items key)
 
 -- ---- queries
 
@@ -176,18 +192,20 @@ query_reply r body None = refused 501 (codes "NotYet: " ++ decimal (thin_end bod
 query_reply r body (Some key) = queried (query_text (all_in key) r)
 
 -- the answer to a query with that body
-abbrev pub query : Limits → Repository → List ℕ → Answer
-query limits r body =
-    unchanged r (if nat_lt limits.document (length body) then refused 413 (codes "DocumentTooLarge") else query_reply r body (thin_key body))
+abbrev pub query : Limits → Stock → List ℕ → Answer
+query limits s body =
+    unchanged s (if nat_lt limits.document (length body) then refused 413 (codes "DocumentTooLarge") else query_reply s.holding.repository body (thin_key body))
+
+-- ---- requests
 
 -- a deploy or a fetch of an item
-abbrev pub step_on : Limits → Repository → Whole → ℤ → Option Key → Answer
-step_on limits r q moment None = not_built q.head r
-step_on limits r q moment (Some key) =
-    if has_method q.head (codes "PUT") then deploy limits r moment key q.body else (
-    if has_method q.head (codes "GET") then fetch r key else not_built q.head r)
+abbrev pub step_on : Limits → Stock → Whole → ℤ → Option Key → Answer
+step_on limits s q moment None = not_built q.head s
+step_on limits s q moment (Some key) =
+    if has_method q.head (codes "PUT") then deploy limits s moment key q.head.fields q.body else (
+    if has_method q.head (codes "GET") then fetch limits s moment key else not_built q.head s)
 
 -- one request at a moment
-unfoldable pub step : Limits → Repository → Whole → ℤ → Answer
-step limits r q moment =
-    if is_plain q.head && is_query q.head then query limits r q.body else step_on limits r q moment (item_asked q.head)
+unfoldable pub step : Limits → Stock → Whole → ℤ → Answer
+step limits s q moment =
+    if is_plain q.head && is_query q.head then query limits s q.body else step_on limits s q moment (item_asked q.head)

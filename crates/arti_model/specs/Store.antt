@@ -1,10 +1,10 @@
 -- The repository: lists of rows, without index.
-use Rattle.std.specs.Prelude.{◌≡◌, ℕ, ℤ, Bool, ◌&&◌, nat_eq, List, [], ◌∷◌, ◌++◌, filter, Option, is_some}
+use Rattle.std.specs.Prelude.{◌≡◌, ℕ, ℤ, Bool, false, not, ◌&&◌, nat_eq, List, [], ◌∷◌, ◌++◌, filter, codes, Option, None, is_some}
 use Rattle.std.specs.List.{find, list_any, AllPairs}
 use Rattle.std.specs.Ordering.{is_lt}
 use Rattle.std.specs.declared.cmp.Ordering.TheVariants.{Less}
 use Rattle.std.specs.Cmp.Lexicographic.{pointwise}
-use Rattle.arti_rows.specs.Key.{Key, key_cmp}
+use Rattle.arti_rows.specs.Key.{Key, key_cmp, folders_above}
 use Rattle.arti_rows.specs.declared.rows.Digests.{Digests}
 use Rattle.arti_rows.specs.declared.rows.Given.{Given}
 use Rattle.arti_rows.specs.declared.rows.Property.{Property}
@@ -73,3 +73,28 @@ put_item new items =
 abbrev pub put_items : List Item → List Item → List Item
 put_items [] items = items
 put_items (new ∷ others) items = put_items others (put_item new items)
+
+-- ---- folders
+
+-- the repository that there is
+abbrev pub local_key : List ℕ
+local_key = codes "generic-local"
+
+-- a folder that is made
+abbrev pub new_folder : ℤ → List ℕ → Key → Item
+new_folder moment user key = record {
+  key = key;
+  created = moment;
+  created_by = user;
+  modified = moment;
+  modified_by = user;
+  updated = moment;
+  given = record { md5 = false; sha1 = false; sha256 = false };
+  file = None;
+  props = [];
+  stat = None;
+}
+
+-- the folders above a key that aren't there
+abbrev pub missing_folders : List Item → Key → List Key
+missing_folders items key = filter (λ folder. not (has_item items folder)) (folders_above key)

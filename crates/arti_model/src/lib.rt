@@ -32,13 +32,13 @@ pub fn bytes_are_read_in_one_way()
 
 ghost use Rattle.std.specs.Prelude.{ℤ};
 ghost use Rattle.arti_rows.specs.declared.limits.Limits.{Limits};
-ghost use Rattle.arti_model.specs.Store.{Repository};
+ghost use Rattle.arti_model.specs.Stock.{Stock};
 ghost use Rattle.arti_model.specs.Run.{AnswersAll, run_bytes};
 
 /// The bytes of a run are determined, where no request found too little memory.
 pub fn steps_answer_all()
-    ensures { (limits : Limits) (moments : List ℤ) (r : Repository) (qs : List Whole) (ending : Ending)
-        → AnswersAll limits moments r qs ending (run_bytes limits moments r qs ending) }
+    ensures { (limits : Limits) (moments : List ℤ) (s : Stock) (qs : List Whole) (ending : Ending)
+        → AnswersAll limits moments s qs ending (run_bytes limits moments s qs ending) }
 {}
 
 ghost use Rattle.arti_model.specs.Store.{Item, InDefaultOrder, put_item};

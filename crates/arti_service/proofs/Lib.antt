@@ -1,9 +1,17 @@
-mod Deploys
+mod Steps
 mod Pieces
 mod Talks
 mod Stops
-mod Places
-mod Puts
 mod Thin
+mod Accepting
+mod Changes
+mod Commits
+mod Deploying
+mod Blocks
+mod Wholes
+mod Staging
 mod Asking
 mod Memory
+pub mod Acting
+pub mod Crashes
+mod Looks

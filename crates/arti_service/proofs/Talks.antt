@@ -1,52 +1,45 @@
 -- How the end of a stream, and one more request, are answered.
-use Rattle.std.proofs.Common.{◌≡◌, ◌⊎◌, inl, inr, ⊎_elim, ℕ, ◌-◌, ◌<◌, ℤ, Bool, true, false, List, [], ◌∷◌, ◌++◌, length, drop, refl, sym, ap, ◌∙◌, subst, append_assoc}
+use Rattle.std.proofs.Common.{◌≡◌, inr, ℕ, ◌-◌, ◌<◌, ℤ, Bool, true, false, List, [], ◌∷◌, ◌++◌, length, drop, refl, sym, ap, ◌∙◌, subst, append_assoc}
 use Rattle.std.specs.Prelude.{MatchBool}
 use Rattle.std.proofs.lemmas.List.{append-nil}
 use Rattle.std.proofs.lemmas.Bool.{false≢true}
-use Rattle.arti_ground.specs.State.{State, LeavesDisk}
 use Rattle.arti_rows.specs.declared.limits.Limits.{Limits}
 use Rattle.arti_model.proofs.OneReading.{begins_once}
-use Rattle.arti_service.specs.Endings.{IsFault, IsCutOrFault}
-use Rattle.arti_model.specs.Requests.{Start, Request, Whole, Begins, AtEnd, AtCut, AtBad, Head, EndsSo, RequestBytes}
+use Rattle.arti_service.specs.Endings.{IsCutOrFault}
+use Rattle.arti_model.specs.Requests.{Start, Request, Whole, Begins, AtEnd, Head, EndsSo, RequestBytes}
 use Rattle.arti_model.specs.Requests as model
-use Rattle.arti_model.specs.declared.Why.{Why}
-use Rattle.arti_model.specs.Store.{Repository}
-use Rattle.arti_model.specs.Step.{step}
-use Rattle.arti_model.specs.Run.{first_of, error_reply, last_reply}
+use Rattle.arti_model.specs.Stock.{Stock}
+use Rattle.arti_model.specs.Run.{last_reply}
 use Rattle.arti_service.specs.declared.conversation.Ending.{Ending}
 use Rattle.arti_service.specs.declared.conversation.Ending.TheVariants as ending
 use Rattle.arti_service.specs.Talk.{IsAnswered, AtStreamEnd, Answers, TakesTurn, AnswersOne, CutsShort}
 
-abbrev no_requests : List Whole
+abbrev pub no_requests : List Whole
 no_requests = []
 
 ends_by : (b : Bool) (A : Type 0) → b ≡ true → MatchBool b ((no_requests ≡ []) × (model.End ≡ model.End)) A
 ends_by true A e = (refl, refl)
 ends_by false A e = absurd (false≢true e)
 
-goes_by : (b : Bool) (A B : Type 0) → b ≡ false → B → MatchBool b A B
+pub goes_by : (b : Bool) (A B : Type 0) → b ≡ false → B → MatchBool b A B
 goes_by true A B e h = absurd (false≢true (sym e))
 goes_by false A B e h = h
 
-module _ (limits : Limits) (most : ℕ) (moments : List ℤ) (r : Repository) (input : List ℕ) where
-  none : (e : model.Ending) → EndsSo limits.content most input e → IsAnswered limits most moments r input e (last_reply e) r
+module _ (limits : Limits) (most : ℕ) (moments : List ℤ) (s : Stock) (input : List ℕ) where
+  none : (e : model.Ending) → EndsSo limits.content most input e → IsAnswered limits most moments s input e (last_reply e) s
   none e ends = record { requests = []; reads = ends; answers = refl; leaves = refl }
 
-  pub ends_untold : (e : model.Ending) (told told' : List ℕ) (r' : Repository) → last_reply e ≡ [] → EndsSo limits.content most input e → r' ≡ r → told' ≡ told → Answers limits most moments r input told told' r' e
-  ends_untold e told told' r' quiet ends same same_told =
+  pub ends_untold : (e : model.Ending) (told told' : List ℕ) (s' : Stock) → last_reply e ≡ [] → EndsSo limits.content most input e → s' ≡ s → told' ≡ told → Answers limits most moments s input told told' s' e
+  ends_untold e told told' s' quiet ends same same_told =
       let bytes = last_reply e in
       let silent : told' ≡ told ++ bytes = same_told ∙ sym (append-nil told) ∙ ap (λ (l : List ℕ). told ++ l) (sym quiet) in
-      (bytes, subst (λ (s : Repository). IsAnswered limits most moments r input e bytes s) (sym same) (none e ends), silent)
-
-  pub ends_bad : (why : Why) (told told' : List ℕ) (r' : Repository) → 0 < most → Begins limits.content input (AtBad why) → r' ≡ r → told' ≡ told ++ error_reply why → Answers limits most moments r input told told' r' (model.Bad why)
-  ends_bad why told told' r' some begins same told_is =
-      (error_reply why, subst (λ (s : Repository). IsAnswered limits most moments r input (model.Bad why) (error_reply why) s) (sym same) (none (model.Bad why) (some, begins)), told_is)
+      (bytes, subst (λ (x : Stock). IsAnswered limits most moments s input e bytes x) (sym same) (none e ends), silent)
 
   module _ (head : Request) (n : ℕ) (rest : List ℕ) (some : 0 < most) (begins : Begins limits.content input (Head head n rest)) where
-    pub ends_in_body : (told told' : List ℕ) (r' : Repository) → CutsShort n rest r r' told told' → Answers limits most moments r input told told' r' model.Cut
-    ends_in_body told told' r' short = ends_untold model.Cut told told' r' refl (some, inr (head, n, rest, begins, short.short)) short.same_store short.same_told
+    pub ends_in_body : (told told' : List ℕ) (s' : Stock) → CutsShort n rest s s' told told' → Answers limits most moments s input told told' s' model.Cut
+    ends_in_body told told' s' short = ends_untold model.Cut told told' s' refl (some, inr (head, n, rest, begins, short.short)) short.same_store short.same_told
 
-    module _ (moments' : List ℤ) (r' : Repository) (input' told told' : List ℕ) (one : AnswersOne limits moments moments' r r' head n rest input' told told') where
+    module _ (moments' : List ℤ) (s' : Stock) (input' told told' : List ℕ) (one : AnswersOne limits moments moments' s s' head n rest input' told told') where
       abbrev q : Whole
       q = record { head = head; body = one.body }
 
@@ -56,7 +49,7 @@ module _ (limits : Limits) (most : ℕ) (moments : List ℤ) (r : Repository) (i
       at_body : Begins limits.content input (Head head (length one.body) (one.body ++ input'))
       at_body = subst (λ (l : List ℕ). Begins limits.content input (Head head (length one.body) l)) one.input_is (subst (λ (k : ℕ). Begins limits.content input (Head head k rest)) (sym one.long) begins)
 
-      pub ends_at_last : head.last ≡ true → Answers limits most moments r input told told' r' model.End
+      pub ends_at_last : head.last ≡ true → Answers limits most moments s input told told' s' model.End
       ends_at_last last = (
         reply ++ [],
         record {
@@ -68,7 +61,7 @@ module _ (limits : Limits) (most : ℕ) (moments : List ℤ) (r : Repository) (i
         one.told_is ∙ ap (λ (l : List ℕ). told ++ l) (sym (append-nil reply)),
       )
 
-      pub turns : head.last ≡ false → TakesTurn limits most moments moments' r r' input input' told told'
+      pub turns : head.last ≡ false → TakesTurn limits most moments moments' s s' input input' told told'
       turns last = record {
         some = some;
         one = (
@@ -81,13 +74,13 @@ module _ (limits : Limits) (most : ℕ) (moments : List ℤ) (r : Repository) (i
             replies = one.replies;
             most = refl;
             moments = one.clock_is;
-            repository = one.store_is;
+            stock = one.store_is;
           },
           one.told_is,
         );
         goes_on = λ e bytes after rest_of.
-            let later = subst (λ (s : Repository). IsAnswered limits (most - 1) (drop 1 moments) s input' e bytes after) one.store_is
-            (subst (λ (m : List ℤ). IsAnswered limits (most - 1) m r' input' e bytes after) one.clock_is rest_of) in (
+            let later = subst (λ (x : Stock). IsAnswered limits (most - 1) (drop 1 moments) x input' e bytes after) one.store_is
+            (subst (λ (m : List ℤ). IsAnswered limits (most - 1) m s' input' e bytes after) one.clock_is rest_of) in (
               reply ++ bytes,
               record {
                 requests = q ∷ later.requests;
@@ -110,55 +103,39 @@ at_stream_end P Q f ending.Source p = p
 at_stream_end P Q f ending.Memory p = p
 
 -- the stream has more, though no more requests are answered
-pub too_many : (limits : Limits) (most : ℕ) (moments : List ℤ) (r : Repository) (input told : List ℕ) (start : Start) → most ≡ 0 → Begins limits.content input start → (start ≡ AtEnd → ⊥) → Answers limits most moments r input told told r model.TooMany
-too_many limits most moments r input told start zero begins other =
-    ends_untold limits most moments r input model.TooMany told told r refl (zero, λ at_end. other (begins_once limits.content input start AtEnd begins at_end)) refl refl
-
-pub fault_end : (e : Ending) (P : model.Ending → Type 0) → IsFault e → AtStreamEnd e P
-fault_end ending.End P h = absurd h
-fault_end ending.Cut P h = absurd h
-fault_end (ending.Bad why) P h = absurd h
-fault_end ending.TooMany P h = absurd h
-fault_end ending.Disk P h = absurd h
-fault_end ending.Tell P h = tt
-fault_end ending.Source P h = tt
-fault_end ending.Memory P h = tt
+pub too_many : (limits : Limits) (most : ℕ) (moments : List ℤ) (s : Stock) (input told : List ℕ) (start : Start) → most ≡ 0 → Begins limits.content input start → (start ≡ AtEnd → ⊥) → Answers limits most moments s input told told s model.TooMany
+too_many limits most moments s input told start zero begins other =
+    ends_untold limits most moments s input model.TooMany told told s refl (zero, λ at_end. other (begins_once limits.content input start AtEnd begins at_end)) refl refl
 
 pub cut_end : (e : Ending) (P : model.Ending → Type 0) → IsCutOrFault e → (e ≡ ending.Cut → P model.Cut) → AtStreamEnd e P
 cut_end ending.End P h f = absurd h
 cut_end ending.Cut P h f = f refl
 cut_end (ending.Bad why) P h f = absurd h
 cut_end ending.TooMany P h f = absurd h
-cut_end ending.Disk P h f = absurd h
+cut_end ending.Disk P h f = tt
 cut_end ending.Tell P h f = tt
 cut_end ending.Source P h f = tt
 cut_end ending.Memory P h f = tt
 
-pub bad_end : (e : Ending) (why : Why) (P : model.Ending → Type 0) → (e ≡ ending.Bad why) ⊎ IsFault e → (e ≡ ending.Bad why → P (model.Bad why)) → AtStreamEnd e P
-bad_end e why P is f = ⊎_elim (λ bad. subst (λ (x : Ending). AtStreamEnd x P) (sym bad) (f bad)) (λ fault. fault_end e P fault) is
-
-pub goes_through : (limits : Limits) (most : ℕ) (moments : List ℤ) (r : Repository) (input told told' : List ℕ) (most0 : ℕ) (moments0 : List ℤ) (r0 r' : Repository) (input0 told0 : List ℕ) (e : Ending)
-    → ((x : model.Ending) (bytes : List ℕ) (after : Repository) → IsAnswered limits most moments r input x bytes after → (all : List ℕ) × IsAnswered limits most0 moments0 r0 input0 x all after × (told ++ bytes ≡ told0 ++ all))
-    → AtStreamEnd e (Answers limits most moments r input told told' r') → AtStreamEnd e (Answers limits most0 moments0 r0 input0 told0 told' r')
-goes_through limits most moments r input told told' most0 moments0 r0 r' input0 told0 e talk at =
-    at_stream_end (Answers limits most moments r input told told' r') (Answers limits most0 moments0 r0 input0 told0 told' r') (λ x a.
-    let all = talk x a.0 r' a.1 in (all.0, all.1, a.2 ∙ all.2)) e at
+pub goes_through : (limits : Limits) (most : ℕ) (moments : List ℤ) (s : Stock) (input told told' : List ℕ) (most0 : ℕ) (moments0 : List ℤ) (s0 s' : Stock) (input0 told0 : List ℕ) (e : Ending)
+    → ((x : model.Ending) (bytes : List ℕ) (after : Stock) → IsAnswered limits most moments s input x bytes after → (all : List ℕ) × IsAnswered limits most0 moments0 s0 input0 x all after × (told ++ bytes ≡ told0 ++ all))
+    → AtStreamEnd e (Answers limits most moments s input told told' s') → AtStreamEnd e (Answers limits most0 moments0 s0 input0 told0 told' s')
+goes_through limits most moments s input told told' most0 moments0 s0 s' input0 told0 e talk at =
+    at_stream_end (Answers limits most moments s input told told' s') (Answers limits most0 moments0 s0 input0 told0 told' s') (λ x a.
+    let all = talk x a.0 s' a.1 in (all.0, all.1, a.2 ∙ all.2)) e at
 
 -- the conversation so far, before the first request: nothing is ahead
-pub starts_so : (limits : Limits) (most : ℕ) (moments : List ℤ) (r : Repository) (ahead left told : List ℕ) (e : model.Ending) (bytes : List ℕ) (after : Repository) → ahead ≡ []
-    → IsAnswered limits most moments r (ahead ++ left) e bytes after → (all : List ℕ) × IsAnswered limits most moments r left e all after × (told ++ bytes ≡ told ++ all)
-starts_so limits most moments r ahead left told e bytes after none a =
-    (bytes, subst (λ (l : List ℕ). IsAnswered limits most moments r (l ++ left) e bytes after) none a, refl)
+pub starts_so : (limits : Limits) (most : ℕ) (moments : List ℤ) (s : Stock) (ahead left told : List ℕ) (e : model.Ending) (bytes : List ℕ) (after : Stock) → ahead ≡ []
+    → IsAnswered limits most moments s (ahead ++ left) e bytes after → (all : List ℕ) × IsAnswered limits most moments s left e all after × (told ++ bytes ≡ told ++ all)
+starts_so limits most moments s ahead left told e bytes after none a =
+    (bytes, subst (λ (l : List ℕ). IsAnswered limits most moments s (l ++ left) e bytes after) none a, refl)
 
 -- the conversation so far, one request later
-pub goes_so : (limits : Limits) (most : ℕ) (moments moments' : List ℤ) (r r' : Repository) (input input' told told' : List ℕ) (most0 : ℕ) (moments0 : List ℤ) (r0 : Repository) (input0 told0 : List ℕ)
-    → TakesTurn limits most moments moments' r r' input input' told told'
-    → ((x : model.Ending) (bytes : List ℕ) (after : Repository) → IsAnswered limits most moments r input x bytes after → (all : List ℕ) × IsAnswered limits most0 moments0 r0 input0 x all after × (told ++ bytes ≡ told0 ++ all))
-    → (e : model.Ending) (bytes : List ℕ) (after : Repository) → IsAnswered limits (most - 1) moments' r' input' e bytes after → (all : List ℕ) × IsAnswered limits most0 moments0 r0 input0 e all after × (told' ++ bytes ≡ told0 ++ all)
-goes_so limits most moments moments' r r' input input' told told' most0 moments0 r0 input0 told0 turn talk e bytes after a =
+pub goes_so : (limits : Limits) (most : ℕ) (moments moments' : List ℤ) (s s' : Stock) (input input' told told' : List ℕ) (most0 : ℕ) (moments0 : List ℤ) (s0 : Stock) (input0 told0 : List ℕ)
+    → TakesTurn limits most moments moments' s s' input input' told told'
+    → ((x : model.Ending) (bytes : List ℕ) (after : Stock) → IsAnswered limits most moments s input x bytes after → (all : List ℕ) × IsAnswered limits most0 moments0 s0 input0 x all after × (told ++ bytes ≡ told0 ++ all))
+    → (e : model.Ending) (bytes : List ℕ) (after : Stock) → IsAnswered limits (most - 1) moments' s' input' e bytes after → (all : List ℕ) × IsAnswered limits most0 moments0 s0 input0 e all after × (told' ++ bytes ≡ told0 ++ all)
+goes_so limits most moments moments' s s' input input' told told' most0 moments0 s0 input0 told0 turn talk e bytes after a =
     let more = turn.goes_on e bytes after a in
     let all = talk e more.0 after more.1 in
     (all.0, all.1, more.2 ∙ all.2)
-
-pub leaves_then : (a b d : State) → LeavesDisk a b → LeavesDisk b d → LeavesDisk a d
-leaves_then a b d p q = record { files = q.files ∙ p.files; images = λ image left. p.images image (q.images image left) }

@@ -1,6 +1,6 @@
 -- The one form of query: its key, and how far a body goes along with it.
-use Rattle.std.proofs.Common.{◌≡◌, ◌≢◌, ℕ, ◌+◌, ◌-◌, ◌<◌, ◌≤◌, zero, suc, Bool, true, false, cond, List, [], ◌∷◌, ◌++◌, length, get_or, take, drop, refl, sym, ap, ◌∙◌, subst, ⊎_elim, arith, nat_eq, nat_lt, append_assoc, length-append, length-take, length-drop}
-use Rattle.std.specs.Prelude.{Some, None, Option, ◌&&◌, ◌||◌, ◌==◌, nat_le, codes, All}
+use Rattle.std.proofs.Common.{◌≡◌, ℕ, ◌+◌, ◌-◌, ◌<◌, ◌≤◌, zero, suc, Bool, true, false, cond, List, [], ◌∷◌, ◌++◌, length, get_or, take, drop, refl, sym, ap, ◌∙◌, subst, ⊎_elim, arith, nat_eq, nat_lt, append_assoc, length-append, length-drop}
+use Rattle.std.specs.Prelude.{Some, None, ◌&&◌, ◌||◌, ◌==◌, nat_le, codes}
 use Rattle.std.specs.List.{list_all, starts_with, take_while, AllPass}
 use Rattle.std.specs.Bool.{Decides}
 use Rattle.std.specs.Cmp.Lexicographic.{pointwise}
@@ -8,13 +8,12 @@ use Rattle.std.specs.Int.{is_in_range}
 use Rattle.std.proofs.lemmas.Bool.{false≢true, cases_lt}
 use Rattle.std.proofs.lemmas.Bool.Decides.{Decides-eqb, nat_tests}
 use Rattle.std.proofs.lemmas.Slice.Eq.{slice_eq-Decides, starts_is}
-use Rattle.std.proofs.lemmas.List.{append-nil, take-append-drop, take_all, drop_all, take-append-le, drop-append-le, get_or_default}
+use Rattle.std.proofs.lemmas.List.{take-append-drop, take_all, drop_all, take-append-le, drop-append-le, get_or_default}
 use Rattle.std.proofs.lemmas.List.Sums.{take_while-cons, AllPass-from_list_all, list_all-from_AllPass}
 use Rattle.std.proofs.lemmas.List.Elements.{All-take, All-head, All-tail}
 use Rattle.arti_rows.specs.Names.{is_repo_byte}
 use Rattle.arti_aql_parse.specs.Thin.{is_key_byte, IsThinKey, AsksFor, BeginsForm, LeavesForm}
-use Rattle.arti_aql_parse.specs.declared.thin.TheConstants.{BEFORE_KEY, AFTER_KEY}
-use Rattle.arti_model.specs.Query.{before_key, behind_key, is_thin_key, thin_body, thin_middle, thin_key, key_so_far, key_to_be, is_thin_front, longest_front, thin_end}
+use Rattle.arti_model.specs.Query.{before_key, behind_key, is_thin_key, thin_body, thin_middle, thin_key, key_to_be, is_thin_front, longest_front, thin_end}
 
 -- ---- keys
 
@@ -31,14 +30,14 @@ same_by false false false false false z = refl
 byte_same : (b : ℕ) → is_key_byte b ≡ is_repo_byte b
 byte_same b = same_by (is_in_range 65 90 b) (is_in_range 97 122 b) (is_in_range 48 57 b) (b == 45) (b == 95) (b == 46)
 
-both : (a b : Bool) → a ≡ true → b ≡ true → (a && b) ≡ true
+pub both : (a b : Bool) → a ≡ true → b ≡ true → (a && b) ≡ true
 both a b p q = ap (λ x. x && b) p ∙ q
 
-left_of : (a b : Bool) → (a && b) ≡ true → a ≡ true
+pub left_of : (a b : Bool) → (a && b) ≡ true → a ≡ true
 left_of true b e = refl
 left_of false b e = absurd (false≢true e)
 
-right_of : (a b : Bool) → (a && b) ≡ true → b ≡ true
+pub right_of : (a b : Bool) → (a && b) ≡ true → b ≡ true
 right_of true b e = e
 right_of false b e = absurd (false≢true e)
 
@@ -61,7 +60,7 @@ all_pass key k = AllPass-from_list_all is_repo_byte key (right_of (nat_lt 0 (len
 
 -- ---- the key of a body of the form
 
-same_texts : (xs ys : List ℕ) → Decides (pointwise nat_eq xs ys) (xs ≡ ys)
+pub same_texts : (xs ys : List ℕ) → Decides (pointwise nat_eq xs ys) (xs ≡ ys)
 same_texts xs ys = slice_eq-Decides Decides-eqb xs ys (pointwise nat_eq xs ys) refl
 
 begins : (xs front : List ℕ) → (starts_with nat_eq xs front ≡ true → xs ≡ front ++ drop (length front) xs) × ((rest : List ℕ) → xs ≡ front ++ rest → starts_with nat_eq xs front ≡ true)

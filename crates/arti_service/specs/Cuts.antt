@@ -3,19 +3,19 @@ use Rattle.std.specs.Prelude.{◌≡◌, ℕ, ◌-◌, ◌<◌, ℤ, false, List
 use Rattle.arti_rows.specs.declared.limits.Limits.{Limits}
 use Rattle.arti_model.specs.declared.Why.{Why}
 use Rattle.arti_model.specs.Requests.{Request, Whole, Begins, AtBad, Head}
-use Rattle.arti_model.specs.Store.{Repository}
+use Rattle.arti_model.specs.Stock.{Stock}
 use Rattle.arti_model.specs.Run.{first_of, IsReply, error_reply}
-use Rattle.arti_model.specs.Step.{Answer, step}
+use Rattle.arti_model.specs.Step.{step}
 use Rattle.arti_service.specs.declared.answering.Stop.{Stop}
 use Rattle.arti_service.specs.declared.answering.Stop.TheVariants as stop
 use Rattle.arti_service.specs.declared.conversation.Ending.{Ending}
 use Rattle.arti_service.specs.declared.conversation.Ending.TheVariants.{End, Cut, Bad, TooMany, Disk, Tell, Source, Memory}
 
--- where a conversation stands: how many more requests it answers, the moments to come, the repository, and the input that is left
+-- where a conversation stands: how many more requests it answers, the moments to come, what the store has, and the input that is left
 pub record Standing : Type 0 where
   pub most : ℕ
   pub moments : List ℤ
-  pub repository : Repository
+  pub stock : Stock
   pub input : List ℕ
 
 -- the input begins with a whole request, which was answered with this reply, and the stream goes on
@@ -24,80 +24,70 @@ pub record AnswersFirst (limits : Limits) (a : Standing) (reply : List ℕ) (b :
   pub some : 0 < a.most
   pub begins : Begins limits.content a.input (Head request.head (length request.body) (request.body ++ b.input))
   pub goes_on : request.head.last ≡ false
-  pub replies : IsReply limits a.repository request (first_of a.moments) reply
+  pub replies : IsReply limits a.stock request (first_of a.moments) reply
   pub most : b.most ≡ a.most - 1
   pub moments : b.moments ≡ drop 1 a.moments
-  pub repository : b.repository ≡ (step limits a.repository request (first_of a.moments)).repository
+  pub stock : b.stock ≡ (step limits a.stock request (first_of a.moments)).stock
 
 -- the input begins with whole requests, which were answered one after the other with these bytes
 pub data AnswersSome (limits : Limits) : Standing → List ℕ → Standing → Type 0 where
   none : {a : Standing} → AnswersSome limits a [] a
   more : {a b c : Standing} {bytes reply : List ℕ} → AnswersSome limits a bytes b → AnswersFirst limits b reply c → AnswersSome limits a (bytes ++ reply) c
 
--- what would be told next, and the repository then: the reply to a whole request, or to bytes that are none
-pub data NextReply (limits : Limits) (a : Standing) : List ℕ → Repository → Type 0 where
+-- what would be told next: the reply to a whole request, or to bytes that are none
+pub data NextReply (limits : Limits) (a : Standing) : List ℕ → Type 0 where
   to_request : (q : Whole) (rest reply : List ℕ) → 0 < a.most → Begins limits.content a.input (Head q.head (length q.body) (q.body ++ rest))
-      → IsReply limits a.repository q (first_of a.moments) reply → NextReply limits a reply (step limits a.repository q (first_of a.moments)).repository
-  to_bad : (why : Why) → 0 < a.most → Begins limits.content a.input (AtBad why) → NextReply limits a (error_reply why) a.repository
+      → IsReply limits a.stock q (first_of a.moments) reply → NextReply limits a reply
+  to_bad : (why : Why) → 0 < a.most → Begins limits.content a.input (AtBad why) → NextReply limits a (error_reply why)
 
 -- the first bytes of a reply were told
 abbrev pub TellsFront : List ℕ → List ℕ → List ℕ → Type 0
 TellsFront reply told told' = (n : ℕ) × (told' ≡ told ++ take n reply)
 
 -- the first bytes of what would be told next were told
-abbrev pub TellsNext : Limits → Standing → List ℕ → List ℕ → Repository → Type 0
-TellsNext limits a told told' r = (reply : List ℕ) × NextReply limits a reply r × TellsFront reply told told'
+abbrev pub TellsNext : Limits → Standing → List ℕ → List ℕ → Type 0
+TellsNext limits a told told' = (reply : List ℕ) × NextReply limits a reply × TellsFront reply told told'
 
--- nothing more was told, and nothing was changed
-abbrev pub StopsThere : Standing → List ℕ → List ℕ → Repository → Type 0
-StopsThere a told told' r = (told' ≡ told) × (r ≡ a.repository)
-
--- how a fault or want of memory leaves what was told and the repository
-abbrev pub StopsSo : Ending → Limits → Standing → List ℕ → List ℕ → Repository → Type 0
-StopsSo End limits a told told' r = Unit {0}
-StopsSo Cut limits a told told' r = Unit {0}
-StopsSo (Bad why) limits a told told' r = Unit {0}
-StopsSo TooMany limits a told told' r = Unit {0}
-StopsSo Disk limits a told told' r = ⊥
-StopsSo Tell limits a told told' r = TellsNext limits a told told' r
-StopsSo Source limits a told told' r = StopsThere a told told' r
-StopsSo Memory limits a told told' r = StopsThere a told told' r
+-- how a fault or want of memory leaves what was told
+abbrev pub StopsSo : Ending → Limits → Standing → List ℕ → List ℕ → Type 0
+StopsSo End limits a told told' = Unit {0}
+StopsSo Cut limits a told told' = Unit {0}
+StopsSo (Bad why) limits a told told' = Unit {0}
+StopsSo TooMany limits a told told' = Unit {0}
+StopsSo Disk limits a told told' = TellsNext limits a told told'
+StopsSo Tell limits a told told' = TellsNext limits a told told'
+StopsSo Source limits a told told' = told' ≡ told
+StopsSo Memory limits a told told' = told' ≡ told
 
 -- the same behind some requests that were answered whole
-abbrev pub Stops : Ending → Limits → Standing → List ℕ → List ℕ → Repository → Type 0
-Stops ending limits a told told' r =
-    (b : Standing) × (bytes : List ℕ) × AnswersSome limits a bytes b × StopsSo ending limits b (told ++ bytes) told' r
+abbrev pub Stops : Ending → Limits → Standing → List ℕ → List ℕ → Type 0
+Stops ending limits a told told' =
+    (b : Standing) × (bytes : List ℕ) × AnswersSome limits a bytes b × StopsSo ending limits b (told ++ bytes) told'
 
--- why an answer stopped, and how that leaves what was told and the repository
-abbrev pub StoppedAt : Stop → Answer → List ℕ → List ℕ → Repository → Repository → Type 0
-StoppedAt stop.Disk answer told told' r after = ⊥
-StoppedAt stop.Tell answer told told' r after = TellsFront answer.reply told told' × (after ≡ answer.repository)
-StoppedAt stop.Memory answer told told' r after = (told' ≡ told) × (after ≡ r)
-
--- the same where the reply is one of these, and the repository behind it that one
-abbrev pub StoppedIn : Stop → (List ℕ → Type 0) → Repository → List ℕ → List ℕ → Repository → Repository → Type 0
-StoppedIn stop.Disk IsOne next told told' r after = ⊥
-StoppedIn stop.Tell IsOne next told told' r after = (reply : List ℕ) × IsOne reply × TellsFront reply told told' × (after ≡ next)
-StoppedIn stop.Memory IsOne next told told' r after = (told' ≡ told) × (after ≡ r)
+-- how a fault or want of memory leaves what was told, where the reply is one of these
+abbrev pub StoppedIn : Stop → (List ℕ → Type 0) → List ℕ → List ℕ → Type 0
+StoppedIn stop.Disk IsOne told told' = (reply : List ℕ) × IsOne reply × TellsFront reply told told'
+StoppedIn stop.Tell IsOne told told' = (reply : List ℕ) × IsOne reply × TellsFront reply told told'
+StoppedIn stop.Memory IsOne told told' = told' ≡ told
 
 -- the request of a head was read whole, n bytes of the input being its body, and some of its reply was told
-pub record TellsSomeOfOne (limits : Limits) (moments : List ℤ) (r r' : Repository) (head : Request) (n : ℕ) (input told told' : List ℕ) : Type 0 where
+pub record TellsSomeOfOne (limits : Limits) (moments : List ℤ) (s : Stock) (head : Request) (n : ℕ) (input told told' : List ℕ) : Type 0 where
   pub body : List ℕ
   pub rest : List ℕ
   pub long : length body ≡ n
   pub input_is : input ≡ body ++ rest
-  pub stopped : StoppedIn stop.Tell (IsReply limits r (record { head = head; body = body }) (first_of moments)) (step limits r (record { head = head; body = body }) (first_of moments)).repository told told' r r'
+  pub stopped : StoppedIn stop.Tell (IsReply limits s (record { head = head; body = body }) (first_of moments)) told told'
 
 -- a fault or want of memory while that request was read and answered
-abbrev pub StopsInOne : Ending → Limits → List ℤ → Repository → Repository → Request → ℕ → List ℕ → List ℕ → List ℕ → Type 0
-StopsInOne End limits moments r r' head n input told told' = Unit {0}
-StopsInOne Cut limits moments r r' head n input told told' = Unit {0}
-StopsInOne (Bad why) limits moments r r' head n input told told' = Unit {0}
-StopsInOne TooMany limits moments r r' head n input told told' = Unit {0}
-StopsInOne Disk limits moments r r' head n input told told' = ⊥
-StopsInOne Tell limits moments r r' head n input told told' = TellsSomeOfOne limits moments r r' head n input told told'
-StopsInOne Source limits moments r r' head n input told told' = (told' ≡ told) × (r' ≡ r)
-StopsInOne Memory limits moments r r' head n input told told' = (told' ≡ told) × (r' ≡ r)
+abbrev pub StopsInOne : Ending → Limits → List ℤ → Stock → Request → ℕ → List ℕ → List ℕ → List ℕ → Type 0
+StopsInOne End limits moments s head n input told told' = Unit {0}
+StopsInOne Cut limits moments s head n input told told' = Unit {0}
+StopsInOne (Bad why) limits moments s head n input told told' = Unit {0}
+StopsInOne TooMany limits moments s head n input told told' = Unit {0}
+StopsInOne Disk limits moments s head n input told told' = TellsSomeOfOne limits moments s head n input told told'
+StopsInOne Tell limits moments s head n input told told' = TellsSomeOfOne limits moments s head n input told told'
+StopsInOne Source limits moments s head n input told told' = told' ≡ told
+StopsInOne Memory limits moments s head n input told told' = told' ≡ told
 
 -- a fault or want of memory while that reply was told
 abbrev pub StopsTelling : Stop → List ℕ → List ℕ → List ℕ → Type 0
@@ -118,6 +108,6 @@ StopsBad Memory why told told' = told' ≡ told
 
 -- the ending of a conversation whose answer stopped so
 abbrev pub EndsFor : Stop → Ending → Type 0
-EndsFor stop.Disk ending = ⊥
+EndsFor stop.Disk ending = ending ≡ Disk
 EndsFor stop.Tell ending = ending ≡ Tell
 EndsFor stop.Memory ending = ending ≡ Memory

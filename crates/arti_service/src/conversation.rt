@@ -1,20 +1,24 @@
 // A request of a stream is read whole and answered.
-ghost use Rattle.std.specs.Prelude.{◌≡◌, ◌≢◌, ◌⊎◌, ◌++◌, ◌<◌, ℕ, List, length, IfOk, IfErr, OnOk, IsErrOf, Err};
-ghost use Rattle.arti_ground.specs.State.{LeavesDisk, Rose};
+ghost use Rattle.std.specs.Prelude.{◌≡◌, ◌≢◌, ◌⊎◌, ◌++◌, ◌<◌, ◌≤◌, ℕ, List, length, IfOk, IfErr, IfSome, OnOk, IsErrOf, Err};
+ghost use Rattle.arti_ground.specs.State.{LeavesDisk, Passes, Rose};
+ghost use Rattle.arti_store.specs.Store.{HoldsStore};
+ghost use Rattle.arti_service.specs.Stocks.{stock_of, IsReady};
+ghost use Rattle.arti_service.specs.Moments.{AtMoment, DuringOne, Telling};
 ghost use Rattle.arti_wire.specs.Framing.{IsInBody, body_left, HasSourceCause};
 ghost use Rattle.arti_wire.specs.declared.wire.Phase.TheVariants.{Between};
-ghost use Rattle.arti_model.specs.Run.{error_reply};
+ghost use Rattle.arti_model.specs.Run.{error_reply, Recovers};
 ghost use Rattle.arti_service.specs.Bodies.{IsBodyOf, LeavesPhase};
 ghost use Rattle.arti_model.specs.Requests.{Begins, Head};
 ghost use Rattle.arti_service.specs.Talk.{AtStreamEnd, Answers, TakesTurn, AnswersOne, CutsShort};
-ghost use Rattle.arti_service.specs.Cuts.{TellsFront, StopsSo, Stops, StopsInOne, StopsTelling, StopsBad, EndsFor};
+ghost use Rattle.arti_service.specs.Cuts.{StopsSo, Stops, StopsInOne, StopsTelling, StopsBad, EndsFor};
 ghost use Rattle.arti_service.specs.Endings.{IsFault, IsCutOrFault};
 
 use crate::answering::{Stop, answer};
 use crate::replies;
-use crate::store::Store;
+use crate::telling::tell;
 use arti_ground::{Clock, Ground, Source, Steps, Upstream};
 use arti_rows::Limits;
+use arti_store::Store;
 use arti_wire::{NextHead, Piece, Request, Why, Wire, WireFault};
 use std::alloc::{AllocError, Global};
 use std::sync::ledger::Ledger;
@@ -47,6 +51,7 @@ fn read_body<S: Source>(
     requires room { 0 < length buf.old }
     ensures body { S.tells → IfOk result (IsBodyOf (body_left wire.old.phase) (wire.old.ahead ++ S.left source.old) (wire.new.ahead ++ S.left source.new)) }
     ensures phase { IfOk result (LeavesPhase wire.new.phase) }
+    ensures long { IfOk result (λ r. IfSome r (λ v. length v.items ≡ body_left wire.old.phase)) }
     ensures cause { HasSourceCause (S.faults source.old) (S.faults source.new) result }
 {
     let mut body = Vec::new(alloc);
@@ -77,6 +82,7 @@ fn error_text(alloc: Global, why: Why) -> Result<Vec<u8>, AllocError>
 fn tell_bad<G: Ground>(alloc: Global, ground: &mut G, line: u32, why: Why) -> Result<(), Stop>
     ensures told { G.tells → OnOk result ((G.state ground.new).told line ≡ (G.state ground.old).told line ++ error_reply why) }
     ensures stops { G.tells → IfErr result (λ stop. StopsTelling stop (error_reply why) ((G.state ground.old).told line) ((G.state ground.new).told line)) }
+    ensures time { G.tells → Passes (G.state ground.old) (G.state ground.new) (Telling (G.state ground.old) line (error_reply why)) }
     ensures tell_fault { IsErrOf result Stop.Tell → Rose (G.tell_faults ground.old line) (G.tell_faults ground.new line) }
     ensures quiet { result ≢ Err Stop.Tell → G.tell_faults ground.new ≡ G.tell_faults ground.old }
     ensures no_disk { result ≢ Err Stop.Disk }
@@ -84,21 +90,21 @@ fn tell_bad<G: Ground>(alloc: Global, ground: &mut G, line: u32, why: Why) -> Re
     ensures disk { G.tells → LeavesDisk (G.state ground.old) (G.state ground.new) }
 {
     let reply = error_text(alloc, why)?;
-    ground.tell(line, &reply)?;
-    Ok(())
+    tell(ground, line, &reply)
 }
 
 // What ends a conversation where an answer stopped.
 fn ending_of(stop: Stop) -> Ending
-    requires { stop ≢ Stop.Disk }
     ensures tell { result ≡ Ending.Tell → stop ≡ Stop.Tell }
     ensures not_tell { result ≢ Ending.Tell → stop ≢ Stop.Tell }
+    ensures disk { result ≡ Ending.Disk → stop ≡ Stop.Disk }
+    ensures not_disk { result ≢ Ending.Disk → stop ≢ Stop.Disk }
     ensures fault { IsFault result }
     ensures source { result ≢ Ending.Source }
     ensures stop { EndsFor stop result }
 {
     match stop {
-        Stop::Disk => unreachable!(),
+        Stop::Disk => Ending::Disk,
         Stop::Tell => Ending::Tell,
         Stop::Memory => Ending::Memory,
     }
@@ -119,19 +125,27 @@ fn answer_next<G: Ground, S: Source, C: Clock>(
 ) -> Result<(), Ending>
     requires body { IsInBody wire.old.phase }
     requires room { 0 < length buf.old }
-    ensures one { G.tells → S.tells → C.tells → OnOk result (AnswersOne limits.now (C.moments clock.old) (C.moments clock.new) store.old store.new request.now (body_left wire.old.phase)
+    requires within { body_left wire.old.phase ≤ limits.now.content }
+    requires ready { IsReady limits.now store.old }
+    requires holds { G.tells → HoldsStore (G.state ground.old) store.old }
+    ensures one { G.tells → S.tells → C.tells → OnOk result (AnswersOne limits.now (C.moments clock.old) (C.moments clock.new) (stock_of (G.state ground.old) store.old) (stock_of (G.state ground.new) store.new) request.now (body_left wire.old.phase)
         (wire.old.ahead ++ S.left source.old) (wire.new.ahead ++ S.left source.new) ((G.state ground.old).told line) ((G.state ground.new).told line)) }
-    ensures cut { G.tells → S.tells → IsErrOf result Ending.Cut → CutsShort (body_left wire.old.phase) (wire.old.ahead ++ S.left source.old) store.old store.new ((G.state ground.old).told line) ((G.state ground.new).told line) }
-    ensures stops { G.tells → S.tells → C.tells → IfErr result (λ ending. StopsInOne ending limits.now (C.moments clock.old) store.old store.new request.now (body_left wire.old.phase)
+    ensures cut { G.tells → S.tells → IsErrOf result Ending.Cut → CutsShort (body_left wire.old.phase) (wire.old.ahead ++ S.left source.old) (stock_of (G.state ground.old) store.old) (stock_of (G.state ground.new) store.new) ((G.state ground.old).told line) ((G.state ground.new).told line) }
+    ensures stops { G.tells → S.tells → C.tells → IfErr result (λ ending. StopsInOne ending limits.now (C.moments clock.old) (stock_of (G.state ground.old) store.old) request.now (body_left wire.old.phase)
         (wire.old.ahead ++ S.left source.old) ((G.state ground.old).told line) ((G.state ground.new).told line)) }
+    ensures moments { G.tells → S.tells → C.tells → Passes (G.state ground.old) (G.state ground.new) (AtMoment limits.now line (G.state ground.old).told
+        (DuringOne limits.now (C.moments clock.old) (stock_of (G.state ground.old) store.old) request.now (body_left wire.old.phase) (wire.old.ahead ++ S.left source.old))) }
+    ensures ready { OnOk result (IsReady limits.now store.new) }
+    ensures holds { G.tells → OnOk result (HoldsStore (G.state ground.new) store.new) }
+    ensures cut_ready { IsErrOf result Ending.Cut → (store.new ≡ store.old) × (ground.new ≡ ground.old) }
     ensures phase { OnOk result (wire.new.phase ≡ Between) }
     ensures ends { IfErr result IsCutOrFault }
     ensures tell_fault { IsErrOf result Ending.Tell → Rose (G.tell_faults ground.old line) (G.tell_faults ground.new line) }
     ensures quiet { result ≢ Err Ending.Tell → G.tell_faults ground.new ≡ G.tell_faults ground.old }
+    ensures disk_fault { IsErrOf result Ending.Disk → Rose (G.disk_faults ground.old) (G.disk_faults ground.new) }
+    ensures disk_quiet { result ≢ Err Ending.Disk → G.disk_faults ground.new ≡ G.disk_faults ground.old }
     ensures source_fault { IsErrOf result Ending.Source → Rose (S.faults source.old) (S.faults source.new) }
     ensures source_quiet { result ≢ Err Ending.Source → S.faults source.new ≡ S.faults source.old }
-    ensures disk_faults { G.disk_faults ground.new ≡ G.disk_faults ground.old }
-    ensures disk { G.tells → LeavesDisk (G.state ground.old) (G.state ground.new) }
 {
     let body = match read_body(alloc, wire, source, buf) {
         Ok(Some(body)) => body,
@@ -140,7 +154,7 @@ fn answer_next<G: Ground, S: Source, C: Clock>(
         Err(WireFault::Memory) => return Err(Ending::Memory),
     };
     let moment = clock.now();
-    match answer(alloc, store, ground, line, limits, request, body, moment) {
+    match answer(alloc, store, ground, line, limits, request, &body, moment) {
         Ok(()) => Ok(()),
         Err(stop) => Err(ending_of(stop)),
     }
@@ -162,21 +176,30 @@ fn turn_on<G: Ground, S: Source, C: Clock>(
 ) -> Result<(), Ending>
     requires body { IsInBody wire.old.phase }
     requires room { 0 < length buf.old }
+    requires within { body_left wire.old.phase ≤ limits.now.content }
     requires some { 0 < most }
+    requires ready { IsReady limits.now store.old }
+    requires holds { G.tells → HoldsStore (G.state ground.old) store.old }
     ensures turns { G.tells → S.tells → C.tells → (input : List ℕ) → Begins limits.now.content input (Head request.now (body_left wire.old.phase) (wire.old.ahead ++ S.left source.old))
-        → OnOk result (TakesTurn limits.now most (C.moments clock.old) (C.moments clock.new) store.old store.new input (wire.new.ahead ++ S.left source.new) ((G.state ground.old).told line) ((G.state ground.new).told line)) }
+        → OnOk result (TakesTurn limits.now most (C.moments clock.old) (C.moments clock.new) (stock_of (G.state ground.old) store.old) (stock_of (G.state ground.new) store.new) input (wire.new.ahead ++ S.left source.new) ((G.state ground.old).told line) ((G.state ground.new).told line)) }
     ensures ends { G.tells → S.tells → C.tells → (input : List ℕ) → Begins limits.now.content input (Head request.now (body_left wire.old.phase) (wire.old.ahead ++ S.left source.old))
-        → IfErr result (λ ending. AtStreamEnd ending (Answers limits.now most (C.moments clock.old) store.old input ((G.state ground.old).told line) ((G.state ground.new).told line) store.new)) }
+        → IfErr result (λ ending. AtStreamEnd ending (Answers limits.now most (C.moments clock.old) (stock_of (G.state ground.old) store.old) input ((G.state ground.old).told line) ((G.state ground.new).told line) (stock_of (G.state ground.new) store.new))) }
     ensures stops { G.tells → S.tells → C.tells → (input : List ℕ) → Begins limits.now.content input (Head request.now (body_left wire.old.phase) (wire.old.ahead ++ S.left source.old))
-        → IfErr result (λ ending. StopsSo ending limits.now (record { most = most; moments = C.moments clock.old; repository = store.old; input = input }) ((G.state ground.old).told line) ((G.state ground.new).told line) store.new) }
+        → IfErr result (λ ending. StopsSo ending limits.now (record { most = most; moments = C.moments clock.old; stock = stock_of (G.state ground.old) store.old; input = input }) ((G.state ground.old).told line) ((G.state ground.new).told line)) }
+    ensures moments { G.tells → S.tells → C.tells → (input : List ℕ) → Begins limits.now.content input (Head request.now (body_left wire.old.phase) (wire.old.ahead ++ S.left source.old))
+        → Passes (G.state ground.old) (G.state ground.new) (AtMoment limits.now line (G.state ground.old).told
+        (Recovers limits.now most (C.moments clock.old) (stock_of (G.state ground.old) store.old) input)) }
+    ensures ready { OnOk result (IsReady limits.now store.new) }
+    ensures holds { G.tells → OnOk result (HoldsStore (G.state ground.new) store.new) }
+    ensures still { G.tells → IfErr result (λ ending. AtStreamEnd ending (λ e. HoldsStore (G.state ground.new) store.new)) }
+    ensures ended { IfErr result (λ ending. AtStreamEnd ending (λ e. IsReady limits.now store.new)) }
     ensures phase { OnOk result (wire.new.phase ≡ Between) }
     ensures tell_fault { IsErrOf result Ending.Tell → Rose (G.tell_faults ground.old line) (G.tell_faults ground.new line) }
     ensures quiet { result ≢ Err Ending.Tell → G.tell_faults ground.new ≡ G.tell_faults ground.old }
+    ensures disk_fault { IsErrOf result Ending.Disk → Rose (G.disk_faults ground.old) (G.disk_faults ground.new) }
+    ensures disk_quiet { result ≢ Err Ending.Disk → G.disk_faults ground.new ≡ G.disk_faults ground.old }
     ensures source_fault { IsErrOf result Ending.Source → Rose (S.faults source.old) (S.faults source.new) }
     ensures source_quiet { result ≢ Err Ending.Source → S.faults source.new ≡ S.faults source.old }
-    ensures no_disk { result ≢ Err Ending.Disk }
-    ensures disk_faults { G.disk_faults ground.new ≡ G.disk_faults ground.old }
-    ensures disk { G.tells → LeavesDisk (G.state ground.old) (G.state ground.new) }
 {
     let last = request.last;
     match answer_next(
@@ -197,9 +220,11 @@ fn end_bad<G: Ground>(alloc: Global, ground: &mut G, line: u32, why: Why) -> End
     ensures bad { result ≡ Ending.Bad why ⊎ IsFault result }
     ensures told { G.tells → result ≡ Ending.Bad why → (G.state ground.new).told line ≡ (G.state ground.old).told line ++ error_reply why }
     ensures stops { G.tells → StopsBad result why ((G.state ground.old).told line) ((G.state ground.new).told line) }
+    ensures time { G.tells → Passes (G.state ground.old) (G.state ground.new) (Telling (G.state ground.old) line (error_reply why)) }
     ensures tell_fault { result ≡ Ending.Tell → Rose (G.tell_faults ground.old line) (G.tell_faults ground.new line) }
     ensures quiet { result ≢ Ending.Tell → G.tell_faults ground.new ≡ G.tell_faults ground.old }
     ensures source { result ≢ Ending.Source }
+    ensures no_disk { result ≢ Ending.Disk }
     ensures disk_faults { G.disk_faults ground.new ≡ G.disk_faults ground.old }
     ensures disk { G.tells → LeavesDisk (G.state ground.old) (G.state ground.new) }
 {
@@ -224,20 +249,27 @@ fn turn<G: Ground, S: Source, C: Clock>(
 ) -> Result<(), Ending>
     requires between { wire.old.phase ≡ Between }
     requires room { 0 < length buf.old }
-    ensures turns { G.tells → S.tells → C.tells → OnOk result (TakesTurn limits.now most (C.moments clock.old) (C.moments clock.new) store.old store.new
+    requires ready { IsReady limits.now store.old }
+    requires holds { G.tells → HoldsStore (G.state ground.old) store.old }
+    ensures turns { G.tells → S.tells → C.tells → OnOk result (TakesTurn limits.now most (C.moments clock.old) (C.moments clock.new) (stock_of (G.state ground.old) store.old) (stock_of (G.state ground.new) store.new)
         (wire.old.ahead ++ S.left source.old) (wire.new.ahead ++ S.left source.new) ((G.state ground.old).told line) ((G.state ground.new).told line)) }
-    ensures ends { G.tells → S.tells → C.tells → IfErr result (λ ending. AtStreamEnd ending (Answers limits.now most (C.moments clock.old) store.old (wire.old.ahead ++ S.left source.old)
-        ((G.state ground.old).told line) ((G.state ground.new).told line) store.new)) }
-    ensures stops { G.tells → S.tells → C.tells → IfErr result (λ ending. StopsSo ending limits.now (record { most = most; moments = C.moments clock.old; repository = store.old; input = wire.old.ahead ++ S.left source.old }) ((G.state ground.old).told line) ((G.state ground.new).told line) store.new) }
+    ensures ends { G.tells → S.tells → C.tells → IfErr result (λ ending. AtStreamEnd ending (Answers limits.now most (C.moments clock.old) (stock_of (G.state ground.old) store.old) (wire.old.ahead ++ S.left source.old)
+        ((G.state ground.old).told line) ((G.state ground.new).told line) (stock_of (G.state ground.new) store.new))) }
+    ensures stops { G.tells → S.tells → C.tells → IfErr result (λ ending. StopsSo ending limits.now (record { most = most; moments = C.moments clock.old; stock = stock_of (G.state ground.old) store.old; input = wire.old.ahead ++ S.left source.old }) ((G.state ground.old).told line) ((G.state ground.new).told line)) }
+    ensures moments { G.tells → S.tells → C.tells → Passes (G.state ground.old) (G.state ground.new) (AtMoment limits.now line (G.state ground.old).told
+        (Recovers limits.now most (C.moments clock.old) (stock_of (G.state ground.old) store.old) (wire.old.ahead ++ S.left source.old))) }
+    ensures ready { OnOk result (IsReady limits.now store.new) }
+    ensures holds { G.tells → OnOk result (HoldsStore (G.state ground.new) store.new) }
+    ensures still { G.tells → IfErr result (λ ending. AtStreamEnd ending (λ e. HoldsStore (G.state ground.new) store.new)) }
+    ensures ended { IfErr result (λ ending. AtStreamEnd ending (λ e. IsReady limits.now store.new)) }
     ensures some { OnOk result (0 < most) }
     ensures phase { OnOk result (wire.new.phase ≡ Between) }
     ensures tell_fault { IsErrOf result Ending.Tell → Rose (G.tell_faults ground.old line) (G.tell_faults ground.new line) }
     ensures quiet { result ≢ Err Ending.Tell → G.tell_faults ground.new ≡ G.tell_faults ground.old }
+    ensures disk_fault { IsErrOf result Ending.Disk → Rose (G.disk_faults ground.old) (G.disk_faults ground.new) }
+    ensures disk_quiet { result ≢ Err Ending.Disk → G.disk_faults ground.new ≡ G.disk_faults ground.old }
     ensures source_fault { IsErrOf result Ending.Source → Rose (S.faults source.old) (S.faults source.new) }
     ensures source_quiet { result ≢ Err Ending.Source → S.faults source.new ≡ S.faults source.old }
-    ensures no_disk { result ≢ Err Ending.Disk }
-    ensures disk_faults { G.disk_faults ground.new ≡ G.disk_faults ground.old }
-    ensures disk { G.tells → LeavesDisk (G.state ground.old) (G.state ground.new) }
 {
     match wire.next_head(alloc, source, limits) {
         Err(WireFault::Source) => Err(Ending::Source),
@@ -278,17 +310,22 @@ pub fn converse<G: Ground, S: Source, U: Upstream, C: Clock, L: Ledger>(
     limits: &Limits,
     _steps: &mut Steps<L>,
 ) -> Ending
-    ensures answers { G.tells → S.tells → C.tells → AtStreamEnd result (Answers limits.now limits.now.requests (C.moments clock.old) store.old (S.left source.old)
-        ((G.state ground.old).told line) ((G.state ground.new).told line) store.new) }
-    ensures stops { G.tells → S.tells → C.tells → Stops result limits.now (record { most = limits.now.requests; moments = C.moments clock.old; repository = store.old; input = S.left source.old })
-        ((G.state ground.old).told line) ((G.state ground.new).told line) store.new }
+    requires ready { IsReady limits.now store.old }
+    requires holds { G.tells → HoldsStore (G.state ground.old) store.old }
+    ensures answers { G.tells → S.tells → C.tells → AtStreamEnd result (Answers limits.now limits.now.requests (C.moments clock.old) (stock_of (G.state ground.old) store.old) (S.left source.old)
+        ((G.state ground.old).told line) ((G.state ground.new).told line) (stock_of (G.state ground.new) store.new)) }
+    ensures stops { G.tells → S.tells → C.tells → Stops result limits.now (record { most = limits.now.requests; moments = C.moments clock.old; stock = stock_of (G.state ground.old) store.old; input = S.left source.old })
+        ((G.state ground.old).told line) ((G.state ground.new).told line) }
+    ensures moments { G.tells → S.tells → C.tells → Passes (G.state ground.old) (G.state ground.new) (AtMoment limits.now line (G.state ground.old).told
+        (Recovers limits.now limits.now.requests (C.moments clock.old) (stock_of (G.state ground.old) store.old) (S.left source.old))) }
+    ensures still { G.tells → AtStreamEnd result (λ e. HoldsStore (G.state ground.new) store.new) }
+    ensures ready { AtStreamEnd result (λ e. IsReady limits.now store.new) }
     ensures tell_fault { result ≡ Ending.Tell → Rose (G.tell_faults ground.old line) (G.tell_faults ground.new line) }
     ensures quiet { result ≢ Ending.Tell → G.tell_faults ground.new ≡ G.tell_faults ground.old }
+    ensures disk_fault { result ≡ Ending.Disk → Rose (G.disk_faults ground.old) (G.disk_faults ground.new) }
+    ensures disk_quiet { result ≢ Ending.Disk → G.disk_faults ground.new ≡ G.disk_faults ground.old }
     ensures source_fault { result ≡ Ending.Source → Rose (S.faults source.old) (S.faults source.new) }
     ensures source_quiet { result ≢ Ending.Source → S.faults source.new ≡ S.faults source.old }
-    ensures no_disk { result ≢ Ending.Disk }
-    ensures disk_faults { G.disk_faults ground.new ≡ G.disk_faults ground.old }
-    ensures disk { G.tells → LeavesDisk (G.state ground.old) (G.state ground.new) }
 {
     let Ok(mut wire) = Wire::new(alloc) else {
         return Ending::Memory;

@@ -2,16 +2,17 @@
 #![tactic(auto)]
 
 mod answering;
-mod ask;
+mod bytes;
+mod carrying;
 mod conversation;
+mod deploys;
+mod looking;
 mod queries;
 mod replies;
-mod store;
-mod stored;
+mod telling;
 
 pub use answering::{Stop, answer};
 pub use conversation::{Ending, converse};
-pub use store::Store;
 
 #[cfg(test)]
 mod tests;

@@ -1,16 +1,22 @@
 // The replies to queries.
-ghost use Rattle.std.specs.Prelude.{◌≡◌, ◌++◌, length, IfOk, codes, decimal, string_bytes};
+ghost use Rattle.std.specs.Prelude.{◌≡◌, ◌++◌, IfOk, codes, decimal};
 ghost use Rattle.arti_model.specs.Query.{all_in, query_text, thin_key};
 ghost use Rattle.arti_model.specs.Bodies.{refused, json_reply};
 ghost use Rattle.arti_model.specs.Replies.{IsReplyStatus};
 ghost use Rattle.arti_model.specs.Step.{queried, query_reply, query};
-ghost use Rattle.arti_service.specs.Queries.{whole};
+ghost use Rattle.std.specs.Prelude.{◌&&◌, ℕ, List, All, map};
+ghost use Rattle.arti_model.specs.Store.{is_file};
+ghost use Rattle.arti_model.specs.Query.{Equals, Repo, facts_of, holds, page};
+ghost use Rattle.arti_model.specs.Stock.{Stock};
+ghost use Rattle.arti_aql_reply.specs.Rows.{facts_of_rows};
+ghost use Rattle.arti_store.specs.Items.{item_in, items_in};
+ghost use Rattle.arti_service.specs.Queries.{whole, IsWhole};
 
 use crate::replies;
-use crate::store::Store;
 use arti_aql_parse::{ThinFault, thin_parse};
 use arti_aql_reply::{ReplyFault, thin_reply};
-use arti_rows::Limits;
+use arti_rows::{ItemRow, Limits};
+use arti_store::Store;
 use arti_wire::response_head;
 use std::alloc::{AllocError, Global};
 
@@ -52,11 +58,35 @@ fn with_body(alloc: Global, body: Vec<u8>) -> Result<Parts, AllocError>
     Ok(Parts { head, body })
 }
 
+// Whether the row is a file of that repository.
+fn is_file_in(row: &ItemRow, repo: &str) -> bool
+    ensures { (bytes : List ℕ) → result ≡ (is_file (item_in bytes row.now) && holds (Equals Repo repo.now) (facts_of (item_in bytes row.now))) }
+{
+    row.file.is_some() && row.key.repo.as_str() == repo
+}
+
+// The rows of the files of a repository.
+fn files_in<'a>(
+    alloc: Global,
+    rows: &'a [ItemRow],
+    repo: &str,
+) -> Result<Vec<&'a ItemRow>, AllocError>
+    ensures { (bytes : List ℕ) → All (IsWhole bytes) rows.now → IfOk result (λ v. facts_of_rows v.items ≡ map facts_of (page (all_in repo.now) (record { items = items_in bytes rows.now }))) }
+{
+    let mut out = Vec::new(alloc);
+    for row in rows {
+        if is_file_in(row, repo) {
+            out.push(row)?;
+        }
+    }
+    Ok(out)
+}
+
 // The reply to the query for the files of a repository.
 fn found(alloc: Global, store: &Store, repo: &str) -> Result<Parts, AllocError>
-    ensures { IfOk result (λ r. whole r ≡ queried (query_text (all_in repo.now) store.now)) }
+    ensures { (bytes : List ℕ) → All (IsWhole bytes) store.now.rows → IfOk result (λ r. whole r ≡ queried (query_text (all_in repo.now) (record { items = items_in bytes store.now.rows }))) }
 {
-    let rows = store.files_in(alloc, repo)?;
+    let rows = files_in(alloc, store.items(), repo)?;
     match thin_reply(alloc, &rows) {
         Ok(body) => with_body(alloc, body),
         Err(ReplyFault::ReplyTooLarge) => refusal(alloc, 413, "ReplyTooLarge"),
@@ -66,7 +96,7 @@ fn found(alloc: Global, store: &Store, repo: &str) -> Result<Parts, AllocError>
 
 // The reply to a query whose body isn't too large.
 fn read(alloc: Global, store: &Store, body: &[u8]) -> Result<Parts, AllocError>
-    ensures { IfOk result (λ r. whole r ≡ query_reply store.now body.now (thin_key body.now)) }
+    ensures { (bytes : List ℕ) → All (IsWhole bytes) store.now.rows → IfOk result (λ r. whole r ≡ query_reply (record { items = items_in bytes store.now.rows }) body.now (thin_key body.now)) }
 {
     match thin_parse(alloc, body) {
         Ok(key) => found(alloc, store, key.as_str()),
@@ -82,7 +112,8 @@ pub fn reply(
     limits: &Limits,
     body: &[u8],
 ) -> Result<Parts, AllocError>
-    ensures { IfOk result (λ r. whole r ≡ (query limits.now store.now body.now).reply) }
+    ensures { (s : Stock) (bytes : List ℕ) → s.holding.repository ≡ record { items = items_in bytes store.now.rows } → All (IsWhole bytes) store.now.rows
+        → IfOk result (λ r. whole r ≡ (query limits.now s body.now).reply) }
 {
     if body.len() as u64 > limits.document {
         return refusal(alloc, 413, "DocumentTooLarge");

@@ -10,3 +10,4 @@ mod Openings
 mod Redoing
 mod Lengths
 mod Naming
+mod Shortness

@@ -13,8 +13,7 @@ use Rattle.arti_rows.specs.declared.rows.ItemRow.{ItemRow}
 use Rattle.arti_rows.specs.declared.edits.Edit.{Edit}
 use Rattle.arti_rows.specs.declared.edits.Edit.TheVariants as edits
 use Rattle.arti_rows.specs.declared.edits.Change.{Change}
-use Rattle.arti_model.specs.Store.{Item, File, same_key, is_file, find_item, has_file, has_item, put_item, put_items}
-use Rattle.arti_model.specs.Step.{new_folder, missing_folders}
+use Rattle.arti_model.specs.Store.{Item, File, same_key, is_file, find_item, has_file, has_item, put_item, put_items, new_folder, missing_folders}
 use Rattle.arti_model.specs.Apply.{with_folder, deployed, with_deployed, counted, with_download, edited, edited_by, apply, Holding}
 use Rattle.arti_store.specs.Items.{file_in, item_in, items_in, find_row, put_row, put_rows}
 use Rattle.arti_store.specs.Edited.{has_row, has_file_row, missing_above, folder_row, folders_for, file_row, counted_row, rows_with_folder, rows_with_file, rows_with_download, rows_edited, rows_edited_by}

@@ -90,6 +90,7 @@ pub(crate) fn take_up(
     requires files { All (HasFileIn blobs.old.kept) rows.old }
     requires references { All (Contains (kept_and blobs.old.kept added)) (references_of change.edits) }
     ensures kept { OnOk result (blobs.new.kept ≡ kept_and blobs.old.kept added) }
+    ensures either { (blobs.new.kept ≡ blobs.old.kept) ⊎ (blobs.new.kept ≡ kept_and blobs.old.kept added) }
     ensures staging { blobs.new.staging ≡ blobs.old.staging }
     ensures rows { OnOk result (rows.new ≡ rows_edited_by change.moment change.user change.edits rows.old) }
     ensures files { All (HasFileIn blobs.new.kept) rows.new }

@@ -54,6 +54,7 @@ impl Model for Store {
       file_is : s.journal.file ≡ 1;
       files : All (HasFileIn s.blobs.kept) s.rows;
       short : end_of s.blobs.kept ≤ 2 ^ 62;
+      lens : All (λ file. file.len ≤ 67108864) s.blobs.kept;
     } };
 }
 
@@ -352,6 +353,13 @@ impl Store {
         ensures short { result ≤ 2 ^ 62 }
     {
         self.blobs.kept_length()
+    }
+
+    /// Each kept content has at most as many bytes as a content may have.
+    pub fn kept_are_short(&self)
+        ensures { All (λ file. file.len ≤ 67108864) self.now.contents.kept }
+    {
+        let _ = &self.blobs;
     }
 }
 

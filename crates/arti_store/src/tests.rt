@@ -9,9 +9,9 @@ use super::*;
 use crate::quiet::Quiet;
 use arti_blobs::{StageFault, Staged};
 use arti_codec::decode;
-use arti_ground::{Ground, MemoryGround};
+use arti_ground::{FaultyGround, Ground, MemoryGround};
 use arti_journal::{Journal, frame};
-use arti_rows::{Change, Edit, FileRef, Limits, Which};
+use arti_rows::{Change, Edit, FileRef, ItemKey, Limits, Which};
 use std::alloc::{AllocError, Global};
 use std::test::Fail;
 
@@ -20,7 +20,9 @@ enum Stop {
     Open(OpenFault),
     Stage(StageFault),
     Commit(CommitFault),
+    Content(ContentFault),
     OtherContent,
+    NoFile,
     Memory,
 }
 
@@ -122,6 +124,17 @@ fn open<G: Ground>(alloc: Global, outside: &mut G, limits: &Limits) -> Result<St
     Store::open(alloc, outside, limits).map_err(|fault| Stop::Open(fault))
 }
 
+// Opens a store, and commits the three first changes.
+fn three<G: Ground>(alloc: Global, outside: &mut G, limits: &Limits) -> Result<Store, Stop>
+    requires { G.tells → ⊥ }
+{
+    let mut store = open(alloc, outside, limits)?;
+    commit(alloc, &mut store, outside, X_ABC, b"abc")?;
+    commit(alloc, &mut store, outside, Y_ABC, b"abc")?;
+    commit(alloc, &mut store, outside, GET_Y, b"abc")?;
+    Ok(store)
+}
+
 fn memory(alloc: Global) -> Result<Quiet<MemoryGround>, AllocError> {
     Ok(Quiet::new(MemoryGround::new(alloc, 200, 4000)?))
 }
@@ -142,6 +155,112 @@ fn limits(journal: u64, blobs: u64) -> Limits {
         Some(limits) => limits,
         None => most,
     }
+}
+
+// The content of the file at a key, or what is wrong with it.
+fn content_at<G: Ground>(
+    alloc: Global,
+    store: &mut Store,
+    outside: &mut G,
+    whole: &str,
+) -> Result<Vec<u8>, Stop>
+    requires { G.tells → ⊥ }
+{
+    let key = ItemKey::new(alloc, "generic-local", whole).map_err(|_| Stop::Memory)?;
+    let file = match store.find(&key) {
+        None => return Err(Stop::NoFile),
+        Some(row) => row.file,
+    };
+    match file {
+        None => Err(Stop::NoFile),
+        Some(file) => read_all(alloc, store, outside, &file),
+    }
+}
+
+fn read_all<G: Ground>(
+    alloc: Global,
+    store: &mut Store,
+    outside: &mut G,
+    file: &FileRef,
+) -> Result<Vec<u8>, Stop>
+    requires quiet { G.tells → ⊥ }
+    requires kept { Contains store.old.contents.kept file.now }
+{
+    let mut bytes = vec![in alloc; 7u8; 10].map_err(|_| Stop::Memory)?;
+    let n = store
+        .content(outside, file, 0, &mut bytes)
+        .map_err(|fault| Stop::Content(fault))?;
+    bytes.truncate(n);
+    Ok(bytes)
+}
+
+// Whether the content at a key is that one.
+fn reads<G: Ground>(
+    alloc: Global,
+    store: &mut Store,
+    outside: &mut G,
+    whole: &str,
+    wanted: &[u8],
+) -> Result<bool, Stop>
+    requires { G.tells → ⊥ }
+{
+    let bytes = content_at(alloc, store, outside, whole)?;
+    Ok(bytes.as_slice() == wanted)
+}
+
+#[test]
+fn items_and_contents(rt: HostRuntime) -> Result<(), Fail> {
+    let alloc = rt.alloc();
+    let most = Limits::standard();
+    let mut ground = memory(alloc)?;
+    let mut store = three(alloc, &mut ground, &most)?;
+    let counts = (store.commits(), store.kept_length(), store.used());
+    assert!(rt; counts == (3, 3, 327));
+    assert!(rt; reads(alloc, &mut store, &mut ground, "x", b"abc")?);
+    Ok(())
+}
+
+// Opens a store, and commits the three first changes, another content for `x` and a folder.
+fn five<G: Ground>(alloc: Global, outside: &mut G, limits: &Limits) -> Result<Store, Stop>
+    requires { G.tells → ⊥ }
+{
+    let mut store = three(alloc, outside, limits)?;
+    commit(alloc, &mut store, outside, X_D, b"d")?;
+    commit(alloc, &mut store, outside, FOLDER, b"d")?;
+    Ok(store)
+}
+
+// Whether two stores have the same rows, and as much is used and kept.
+fn is_same(a: &Store, b: &Store) -> bool {
+    a.items() == b.items() && a.used() == b.used() && a.kept_length() == b.kept_length()
+}
+
+// Whether each of three keys of those five reads as it should.
+fn reads_five<G: Ground>(alloc: Global, store: &mut Store, outside: &mut G) -> Result<bool, Stop>
+    requires { G.tells → ⊥ }
+{
+    if !reads(alloc, store, outside, "x", b"d")? {
+        return Ok(false);
+    }
+    if !reads(alloc, store, outside, "a/b/y", b"abc")? {
+        return Ok(false);
+    }
+    Ok(reads(alloc, store, outside, "f", b"") == Err(Stop::NoFile))
+}
+
+#[test]
+fn items_after_an_opening(rt: HostRuntime) -> Result<(), Fail> {
+    let alloc = rt.alloc();
+    let most = Limits::standard();
+    let mut ground = memory(alloc)?;
+    let store = five(alloc, &mut ground, &most)?;
+    let mut again = open(alloc, &mut ground, &most)?;
+    assert!(rt; is_same(&again, &store));
+    let counts = (again.items().len(), again.kept_length(), again.commits());
+    assert!(rt; counts == (5, 4, 0));
+    assert!(rt; again.closed() == None && again.limits() == &most);
+    assert!(rt; reads_five(alloc, &mut again, &mut ground)?);
+    Ok(())
 }
 
 #[test]
@@ -170,6 +289,144 @@ fn what_is_full(rt: HostRuntime) -> Result<(), Fail> {
         assert_eq!(rt; again.items(), store.items());
         assert_eq!(rt; again.kept_length(), store.kept_length());
     }
+    Ok(())
+}
+
+// Whether the store has the rows that so many of the three first changes leave.
+fn has_first(alloc: Global, store: &Store, count: u64) -> Result<bool, Stop> {
+    let most = Limits::standard();
+    let mut other = memory(alloc).map_err(|_| Stop::Memory)?;
+    let mut model = open(alloc, &mut other, &most)?;
+    if count > 0 {
+        commit(alloc, &mut model, &mut other, X_ABC, b"abc")?;
+    }
+    if count > 1 {
+        commit(alloc, &mut model, &mut other, Y_ABC, b"abc")?;
+    }
+    if count > 2 {
+        commit(alloc, &mut model, &mut other, GET_Y, b"abc")?;
+    }
+    Ok(store.items() == model.items() && store.kept_length() == model.kept_length())
+}
+
+// Commits the three first changes to an open store, and gives the fault of the first commit that has one.
+fn commit_three<G: Ground>(alloc: Global, store: &mut Store, outside: &mut G) -> Result<(), Stop>
+    requires { G.tells → ⊥ }
+{
+    commit(alloc, store, outside, X_ABC, b"abc")?;
+    commit(alloc, store, outside, Y_ABC, b"abc")?;
+    commit(alloc, store, outside, GET_Y, b"abc")
+}
+
+// Whether the store in the files is one that so many of the first changes leave, or one more.
+fn reopens<G: Ground>(
+    alloc: Global,
+    outside: &mut G,
+    count: u64,
+    one_more: bool,
+) -> Result<bool, Stop> {
+    let again = open(alloc, outside, &Limits::standard())?;
+    if has_first(alloc, &again, count)? {
+        return Ok(true);
+    }
+    Ok(one_more && has_first(alloc, &again, count.saturating_add(1))?)
+}
+
+// Whether a store that a fault of the disk closed says so, with the number of the commit.
+fn says_closed<G: Ground>(alloc: Global, store: &mut Store, outside: &mut G) -> bool
+    requires { G.tells → ⊥ }
+{
+    let number = store.commits().saturating_add(1);
+    let closed = Err(Stop::Commit(CommitFault::Closed(number)));
+    store.closed() == Some(number) && commit(alloc, store, outside, FOLDER, b"abc") == closed
+}
+
+// Whether a store is as it should be where the call of that number fails.
+fn fails_at(alloc: Global, number: u64) -> Result<bool, Stop> {
+    let failing = [number].to_vec(alloc).map_err(|_| Stop::Memory)?;
+    let faulty = FaultyGround::new(alloc, 200, 4000, failing).map_err(|_| Stop::Memory)?;
+    let mut ground = Quiet::new(faulty);
+    let mut store = open(alloc, &mut ground, &Limits::standard())?;
+    let done = commit_three(alloc, &mut store, &mut ground);
+    let commits = store.commits();
+    if commits > 2 {
+        return Ok(false);
+    }
+    if done == Err(Stop::Commit(CommitFault::Device)) {
+        if !says_closed(alloc, &mut store, &mut ground) {
+            return Ok(false);
+        }
+        return reopens(alloc, &mut ground, commits, true);
+    }
+    if done.is_ok() || store.closed().is_some() {
+        return Ok(false);
+    }
+    reopens(alloc, &mut ground, commits, false)
+}
+
+#[test]
+fn each_call_fails_in_turn(rt: HostRuntime) -> Result<(), Fail> {
+    let alloc = rt.alloc();
+    for number in 11..39u64 {
+        assert!(rt; fails_at(alloc, number)?);
+    }
+    Ok(())
+}
+
+// Whether a crash at that moment leaves the store after so many changes, or one more where it may.
+fn recovers(
+    alloc: Global,
+    ground: &MemoryGround,
+    moment: u64,
+    count: u64,
+    one_more: bool,
+) -> Result<bool, Stop> {
+    for choice in [0u64, 1, 2] {
+        if moment >= ground.moments() {
+            return Ok(false);
+        }
+        let after = ground
+            .after_crash(alloc, moment, choice)
+            .map_err(|_| Stop::Memory)?;
+        if !reopens(alloc, &mut Quiet::new(after), count, one_more)? {
+            return Ok(false);
+        }
+    }
+    Ok(true)
+}
+
+// Whether each crash in a commit leaves the store before it or behind it, and one after it the store behind it.
+fn recovers_in_commit(
+    alloc: Global,
+    store: &mut Store,
+    ground: &mut Quiet<MemoryGround>,
+    bytes: &[u8],
+    count: u64,
+) -> Result<bool, Stop>
+    requires { count ≤ 2 }
+{
+    let least = ground.inner.moments();
+    commit(alloc, store, ground, bytes, b"abc")?;
+    let moments = ground.inner.moments();
+    for moment in least..moments {
+        if !recovers(alloc, &ground.inner, moment, count, true)? {
+            return Ok(false);
+        }
+    }
+    if moments == 0 {
+        return Ok(false);
+    }
+    recovers(alloc, &ground.inner, moments - 1, count + 1, false)
+}
+
+#[test]
+fn commits_stopped_at_each_moment(rt: HostRuntime) -> Result<(), Fail> {
+    let alloc = rt.alloc();
+    let mut ground = memory(alloc)?;
+    let mut store = open(alloc, &mut ground, &Limits::standard())?;
+    assert!(rt; recovers_in_commit(alloc, &mut store, &mut ground, X_ABC, 0)?);
+    assert!(rt; recovers_in_commit(alloc, &mut store, &mut ground, Y_ABC, 1)?);
+    assert!(rt; recovers_in_commit(alloc, &mut store, &mut ground, GET_Y, 2)?);
     Ok(())
 }
 

@@ -1,12 +1,19 @@
-use Rattle.std.proofs.Common.{◌≡◌, List, sym, subst}
+use Rattle.std.proofs.Common.{◌≡◌, inl, inr, List, sym, ap, subst}
 use Rattle.std.specs.Prelude.{All, Contains}
 use Rattle.arti_rows.specs.declared.rows.FileRef.{FileRef}
+use Rattle.arti_blobs.specs.Contents.{Contents}
 use Rattle.arti_store.specs.Items.{HasFileIn}
 use Rattle.arti_store.specs.Changes.{references_of}
 use Rattle.arti_store.specs.Store.{kept_and}
 use Rattle.arti_store.proofs.Holdings.{has_more}
 use Rattle.arti_store.proofs.Commits.{and_contains}
 use Rattle.arti_store.proofs.commit.take_up.Goals as goal
+
+pub returns-in_err-keep_added-clause-either : goal.returns-in_err-keep_added-clause-either
+returns-in_err-keep_added-clause-either c = inl (ap (λ (b : Contents). b.kept) c.in_err-keep_added.ensures.unchanged)
+
+pub returns-clause-either : goal.returns-clause-either
+returns-clause-either c = inr c.in_ok-keep_added.ensures.kept
 
 pub returns-clause-files : goal.returns-clause-files
 returns-clause-files c =

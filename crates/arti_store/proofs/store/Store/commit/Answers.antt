@@ -12,7 +12,8 @@ use Rattle.arti_store.specs.Items.{file_in}
 use Rattle.arti_store.specs.Changes.{references_of}
 use Rattle.arti_store.specs.Edited.{rows_edited_by}
 use Rattle.arti_store.specs.Store.{View, holding_of, HoldsOpen, kept_and, Committing}
-use Rattle.arti_store.proofs.Commits.{IsKept, may_none, none_by, names_added, room_added, room_for, kept_by, moments_of, holding_then, holds_then}
+use Rattle.arti_store.proofs.Commits.{IsKept, may_none, none_by, names_added, room_added, room_for, kept_by, moments_of, holding_then, holds_then, and_contains}
+use Rattle.arti_store.proofs.Shortness.{IsShort, change_short, taken_short}
 use Rattle.arti_store.proofs.store.Store.commit.Goals as goal
 
 pub returns-in-Err-Device-clause-moments : goal.returns-in-Err-Device-clause-moments
@@ -180,3 +181,36 @@ returns-clause-holds g c = λ tells closed.
     let used_then : next.used ≡ v.used + 5 + length body = longer ∙ ap (λ (n : ℕ). n + 5 + length body) used in
     let third : end.files 3 ≡ start.files 3 = appended.others 3 (omega arith) in
     holds_then start end v c.args.change body (kept_and v.contents.kept added) held one (c.requires.accepted tells open_now) more next rows kept staging (ap (λ (w : View). w.limits) c.self.view_is) used_then third appended.journal appended.durable
+
+pub invariant_of-self-then-is_err : goal.invariant_of-self-then-is_err
+invariant_of-self-then-is_err g c =
+    let open_now : c.args.self.now.closed ≡ None = sym (ap (λ (w : View). w.closed) c.self.view_is) ∙ none_by c.self.inside.closed c.in_default.not-Some in
+    let lens : All IsShort c.take_up-taken.new.blobs.kept =
+    taken_short c.self.inside.blobs.kept c.take_up-taken.new.blobs.kept (references_of c.args.change.edits) c.args.content c.added-added.result c.take_up-taken.ensures.either c.added-added.ensures
+    (change_short c.args.change (c.requires.bytes open_now)) c.self.invariant.lens in
+    record {
+      file_is = search rules;
+      files = c.take_up-taken.ensures.files;
+      short = omega (arith, c.take_up-taken.ensures.short, c.self.invariant.short, c.self.inside.limits.within.blobs_fit);
+      lens = lens;
+    }
+
+pub invariant_of-self-2 : goal.invariant_of-self-2
+invariant_of-self-2 g c =
+    let open_now : c.args.self.now.closed ≡ None = sym (ap (λ (w : View). w.closed) c.self.view_is) ∙ none_by c.self.inside.closed c.in_default.not-Some in
+    let lens : All IsShort c.take_up-taken.new.blobs.kept =
+    taken_short c.self.inside.blobs.kept c.take_up-taken.new.blobs.kept (references_of c.args.change.edits) c.args.content c.added-added.result c.take_up-taken.ensures.either c.added-added.ensures
+    (change_short c.args.change (c.requires.bytes open_now)) c.self.invariant.lens in
+    record {
+      file_is = search rules;
+      files = c.take_up-taken.ensures.files;
+      short = omega (arith, c.take_up-taken.ensures.short, c.self.invariant.short, c.self.inside.limits.within.blobs_fit);
+      lens = lens;
+    }
+
+pub returns-clause-kept : goal.returns-clause-kept
+returns-clause-kept g c = λ file is.
+    let added : Option Staged = c.added-added.result in
+    let was : c.self.inside.blobs.kept ≡ c.args.self.now.contents.kept = ap (λ (w : View). w.contents.kept) c.self.view_is in
+    let kept_then : c.take_up-taken.new.blobs.kept ≡ kept_and c.self.inside.blobs.kept added = search rules in
+    subst (λ (l : List FileRef). Contains l file) (sym kept_then) (and_contains c.self.inside.blobs.kept added file (subst (λ (l : List FileRef). Contains l file) (sym was) is))

@@ -9,6 +9,7 @@ use Rattle.arti_store.specs.declared.fault.OpenFault.TheVariants.{NotAStore}
 use Rattle.arti_store.specs.Replays.{Replays, ReplaysNot}
 use Rattle.arti_store.specs.Store.{View, AreDistinct}
 use Rattle.arti_store.proofs.Openings.{not_replayed, not_contents, journal_opened, then_read, opened_stands, opened_holds, opened_has}
+use Rattle.arti_store.proofs.Shortness.{opened_short}
 use Rattle.arti_store.proofs.store.Store.open.Goals as goal
 
 pub returns-in-Err-NotAJournal-clause-none : goal.returns-in-Err-NotAJournal-clause-none
@@ -75,7 +76,12 @@ invariant_of-result g c =
     let names : List FileRef = c.in-Ok-Some.done.1.items in
     let replays : Replays limits bodies rows names = search rules in
     let keeps : Keeps [] names c.in-Ok-open_contents.blobs.kept = search rules in
-    record { file_is = search rules; files = opened_has limits bodies rows names c.in-Ok-open_contents.blobs.kept replays keeps; short = search rules }
+    record {
+      file_is = search rules;
+      files = opened_has limits bodies rows names c.in-Ok-open_contents.blobs.kept replays keeps;
+      short = search rules;
+      lens = opened_short limits bodies rows names c.in-Ok-open_contents.blobs.kept replays keeps;
+    }
 
 pub returns-clause-stands : goal.returns-clause-stands
 returns-clause-stands g c = λ tells.

@@ -1,9 +1,0 @@
-use Rattle.std.proofs.Common.{◌≡◌, ◌∷◌, rules}
-use Rattle.std.specs.Vec.Iter.{into_iter_items}
-use Rattle.arti_service.proofs.Puts.{next_put}
-use Rattle.arti_service.proofs.stored.put_all.Goals as goal
-
-pub loop-new-preserved : goal.loop-new-preserved
-loop-new-preserved c =
-    let step : into_iter_items c.loop-new.new-iterator ≡ c.in-Some.new ∷ into_iter_items c.next.new.self = search rules in
-    (tt, tt, next_put c.args.news.items c.args.items.now.items _ _ c.in-Some.new c.loop-new.items c.put.new.items c.loop-new.invariant.2 step c.put.ensures.put c.put.ensures.order c.put.ensures.measures c.put.ensures.capacity c.put.ensures.len)

@@ -1,0 +1,250 @@
+// Contents are staged, and changes are committed and their replies told.
+ghost use Rattle.std.specs.Prelude.{◌≡◌, ◌≢◌, ◌↔◌, ◌++◌, ◌≤◌, ℕ, List, [], length, All, Contains, Option, None, Some, IsTrue, IfOk, IfErr, IfSome, OnOk, OnErr, IsErrOf, Err, false};
+ghost use Rattle.arti_ground.specs.State.{LeavesDisk, Passes, Rose};
+ghost use Rattle.arti_rows.specs.declared.rows.FileRef.{FileRef};
+ghost use Rattle.arti_blobs.specs.Contents.{content, HasPair};
+ghost use Rattle.arti_codec.specs.ChangeBytes.{HasBytes};
+ghost use Rattle.arti_model.specs.Apply.{refusal, apply};
+ghost use Rattle.arti_model.specs.Stock.{accept, fills_blobs};
+ghost use Rattle.arti_model.specs.Step.{digests_of};
+ghost use Rattle.arti_store.specs.Items.{file_in};
+ghost use Rattle.arti_store.specs.Changes.{references_of};
+ghost use Rattle.arti_store.specs.Store.{holding_of, HoldsStore, Standing, kept_and, MayKeep, IsStaged, PassesBlobs};
+ghost use Rattle.arti_service.specs.Cuts.{StopsTelling, TellsFront};
+ghost use Rattle.arti_service.specs.Moments.{Telling};
+ghost use Rattle.arti_service.specs.Stocks.{stock_of, IsReady};
+ghost use Rattle.arti_service.specs.Acts.{ActsFor};
+ghost use Rattle.arti_service.specs.Parts.{rest_of};
+
+use crate::answering::Stop;
+use crate::replies;
+use crate::telling::tell;
+use arti_blobs::{StageFault, Staged};
+use arti_ground::Ground;
+use arti_rows::{Change, FileRef, Limits, Which};
+use arti_store::{CommitFault, ContentFault, Store};
+use std::alloc::{AllocError, Global};
+
+/// How many bytes of a content are read at once.
+const BLOCK: usize = 65536;
+
+/// Stages a content whole.
+pub fn stage<G: Ground>(
+    store: &mut Store,
+    ground: &mut G,
+    limits: &Limits,
+    body: &[u8],
+) -> Result<Staged, Stop>
+    requires ready { IsReady limits.now store.old }
+    requires holds { G.tells → HoldsStore (G.state ground.old) store.old }
+    requires short { length body.now ≤ 67108864 }
+    ensures ready { IfOk result (λ s. IsReady limits.now store.new) }
+    ensures rows { IfOk result (λ s. (store.new.rows ≡ store.old.rows) × (store.new.contents.kept ≡ store.old.contents.kept)) }
+    ensures length { IfOk result (λ s. s.file.len ≡ length body.now) }
+    ensures digests { IfOk result (λ s. s.file.digests ≡ digests_of body.now) }
+    ensures content { G.tells → IfOk result (λ s. content ((G.state ground.new).files 3) s.file ≡ body.now) }
+    ensures fresh { G.tells → IfOk result (λ s. s.fresh ≡ false ↔ HasPair ((G.state ground.new).files 3) store.new.contents.kept body.now (digests_of body.now)) }
+    ensures kept { IfOk result (λ s. Contains (kept_and store.new.contents.kept (Some s)) s.file) }
+    ensures keep { IfOk result (λ s. MayKeep store.new.contents (Some s)) }
+    ensures staged { G.tells → IfOk result (λ s. IsStaged ((G.state ground.new).files 3) store.new.contents.kept (Some s)) }
+    ensures stock { G.tells → IfOk result (λ s. stock_of (G.state ground.new) store.new ≡ stock_of (G.state ground.old) store.old) }
+    ensures holds { G.tells → IfOk result (λ s. HoldsStore (G.state ground.new) store.new) }
+    ensures moments { G.tells → Passes (G.state ground.old) (G.state ground.new) (Standing (G.state ground.old) store.old) }
+    ensures told { G.tells → (G.state ground.new).told ≡ (G.state ground.old).told }
+    ensures stops { IfErr result (λ stop. stop ≡ Stop.Disk) }
+    ensures disk_fault { IsErrOf result Stop.Disk → Rose (G.disk_faults ground.old) (G.disk_faults ground.new) }
+    ensures disk_quiet { result ≢ Err Stop.Disk → G.disk_faults ground.new ≡ G.disk_faults ground.old }
+    ensures tell_faults { G.tell_faults ground.new ≡ G.tell_faults ground.old }
+{
+    let _limits = limits;
+    store.stage_begin(&*ground);
+    match store.stage_piece(ground, body, body.len() as u64) {
+        Ok(()) => {}
+        Err(StageFault::Device) => return Err(Stop::Disk),
+        Err(StageFault::TooLarge) => unreachable!(),
+    }
+    match store.stage_end(ground) {
+        Ok(staged) => Ok(staged),
+        Err(_) => Err(Stop::Disk),
+    }
+}
+
+// Tells a kept content in blocks, from a place in it on.
+fn tell_content<G: Ground>(
+    store: &mut Store,
+    ground: &mut G,
+    line: u32,
+    file: &FileRef,
+    buf: &mut [u8],
+) -> Result<(), Stop>
+    requires still_open { store.old.closed ≡ None }
+    requires kept { Contains store.old.contents.kept file.now }
+    requires holds { G.tells → HoldsStore (G.state ground.old) store.old }
+    requires room { 0 < length buf.old }
+    ensures unchanged { store.new ≡ store.old }
+    ensures told { G.tells → OnOk result ((G.state ground.new).told line ≡ (G.state ground.old).told line ++ content ((G.state ground.old).files 3) file.now) }
+    ensures stops { G.tells → OnErr result (TellsFront (content ((G.state ground.old).files 3) file.now) ((G.state ground.old).told line) ((G.state ground.new).told line)) }
+    ensures time { G.tells → Passes (G.state ground.old) (G.state ground.new) (Telling (G.state ground.old) line (content ((G.state ground.old).files 3) file.now)) }
+    ensures no_memory { result ≢ Err Stop.Memory }
+    ensures disk { G.tells → LeavesDisk (G.state ground.old) (G.state ground.new) }
+    ensures tell_fault { IsErrOf result Stop.Tell → Rose (G.tell_faults ground.old line) (G.tell_faults ground.new line) }
+    ensures quiet { result ≢ Err Stop.Tell → G.tell_faults ground.new ≡ G.tell_faults ground.old }
+    ensures disk_fault { IsErrOf result Stop.Disk → Rose (G.disk_faults ground.old) (G.disk_faults ground.new) }
+    ensures disk_quiet { result ≢ Err Stop.Disk → G.disk_faults ground.new ≡ G.disk_faults ground.old }
+{
+    let mut at = 0;
+    'blocks: while at < file.len {
+        let room = (file.len - at).min(buf.len() as u64) as usize;
+        let n = match store.content(ground, file, at, &mut buf[..room]) {
+            Ok(n) => n,
+            Err(ContentFault::Device) => return Err(Stop::Disk),
+            Err(ContentFault::Closed(_)) => unreachable!(),
+        };
+        if n == 0 {
+            return Ok(());
+        }
+        match tell(ground, line, &buf[..n]) {
+            Err(stop) => return Err(stop),
+            Ok(()) => at += n as u64,
+        }
+    }
+    Ok(())
+}
+
+// Tells a head, and behind it a kept content where there is one.
+fn tell_reply<G: Ground>(
+    store: &mut Store,
+    ground: &mut G,
+    line: u32,
+    head: &[u8],
+    file: Option<&FileRef>,
+    buf: &mut [u8],
+) -> Result<(), Stop>
+    requires still_open { store.old.closed ≡ None }
+    requires kept { IfSome file (λ f. Contains store.old.contents.kept f.now) }
+    requires holds { G.tells → HoldsStore (G.state ground.old) store.old }
+    requires room { IfSome file (λ f. 0 < length buf.old) }
+    ensures unchanged { store.new ≡ store.old }
+    ensures told { G.tells → OnOk result ((G.state ground.new).told line ≡ (G.state ground.old).told line ++ (head.now ++ rest_of ((G.state ground.old).files 3) (option_copied file.entry))) }
+    ensures stops { G.tells → OnErr result (TellsFront (head.now ++ rest_of ((G.state ground.old).files 3) (option_copied file.entry)) ((G.state ground.old).told line) ((G.state ground.new).told line)) }
+    ensures time { G.tells → Passes (G.state ground.old) (G.state ground.new) (Telling (G.state ground.old) line (head.now ++ rest_of ((G.state ground.old).files 3) (option_copied file.entry))) }
+    ensures no_memory { result ≢ Err Stop.Memory }
+    ensures disk { G.tells → LeavesDisk (G.state ground.old) (G.state ground.new) }
+    ensures tell_fault { IsErrOf result Stop.Tell → Rose (G.tell_faults ground.old line) (G.tell_faults ground.new line) }
+    ensures quiet { result ≢ Err Stop.Tell → G.tell_faults ground.new ≡ G.tell_faults ground.old }
+    ensures disk_fault { IsErrOf result Stop.Disk → Rose (G.disk_faults ground.old) (G.disk_faults ground.new) }
+    ensures disk_quiet { result ≢ Err Stop.Disk → G.disk_faults ground.new ≡ G.disk_faults ground.old }
+{
+    match tell(ground, line, head) {
+        Err(stop) => return Err(stop),
+        Ok(()) => {}
+    }
+    match file {
+        None => Ok(()),
+        Some(file) => tell_content(store, ground, line, file, buf),
+    }
+}
+
+// Tells what there is no room for.
+fn tell_full<G: Ground>(alloc: Global, ground: &mut G, line: u32, which: Which) -> Result<(), Stop>
+    requires { (which ≡ Which.Blobs) ⊎ (which ≡ Which.Journal) }
+    ensures told { G.tells → OnOk result ((G.state ground.new).told line ≡ (G.state ground.old).told line ++ full_reply which) }
+    ensures stops { G.tells → IfErr result (λ stop. StopsTelling stop (full_reply which) ((G.state ground.old).told line) ((G.state ground.new).told line)) }
+    ensures time { G.tells → Passes (G.state ground.old) (G.state ground.new) (Telling (G.state ground.old) line (full_reply which)) }
+    ensures tell_fault { IsErrOf result Stop.Tell → Rose (G.tell_faults ground.old line) (G.tell_faults ground.new line) }
+    ensures quiet { result ≢ Err Stop.Tell → G.tell_faults ground.new ≡ G.tell_faults ground.old }
+    ensures no_disk { result ≢ Err Stop.Disk }
+    ensures disk_faults { G.disk_faults ground.new ≡ G.disk_faults ground.old }
+    ensures disk { G.tells → LeavesDisk (G.state ground.old) (G.state ground.new) }
+{
+    let word = match which {
+        Which::Blobs => "blobs",
+        _ => "journal",
+    };
+    let reply = replies::refusal_with(alloc, 507, "Full: ", word)?;
+    tell(ground, line, &reply)
+}
+
+ghost use Rattle.std.specs.Prelude.{◌⊎◌, ◌<◌};
+ghost use Rattle.arti_service.specs.Parts.{full_reply};
+ghost use Rattle.arti_service.specs.Outcomes.{EndedSo};
+
+/// How a commit to an open store ended.
+#[derive(Clone, Copy, Debug, PartialEq, Eq)]
+pub enum Outcome {
+    Done,
+    NoRoomForContents,
+    NoRoomInJournal,
+    Device,
+    Memory,
+}
+
+// How a commit to an open store ended.
+fn outcome_of(ended: Result<(), CommitFault>) -> Outcome
+    requires still_open { (n : ℕ) → ended ≢ Err (CommitFault.Closed n) }
+    ensures { EndedSo result ended }
+{
+    match ended {
+        Ok(()) => Outcome::Done,
+        Err(CommitFault::Full(Which::Blobs)) => Outcome::NoRoomForContents,
+        Err(CommitFault::Full(_)) => Outcome::NoRoomInJournal,
+        Err(CommitFault::Device) => Outcome::Device,
+        Err(CommitFault::Memory) => Outcome::Memory,
+        Err(CommitFault::Closed(_)) => unreachable!(),
+    }
+}
+
+/// Commits a change and tells the reply, behind whose head a kept content may come; or tells what there is no room for.
+pub fn carry_out<G: Ground>(
+    alloc: Global,
+    store: &mut Store,
+    ground: &mut G,
+    line: u32,
+    limits: &Limits,
+    change: Change,
+    staged: Option<Staged>,
+    head: &[u8],
+    file: Option<&FileRef>,
+) -> Result<(), Stop>
+    requires ready { IsReady limits.now store.old }
+    requires holds { G.tells → HoldsStore (G.state ground.old) store.old }
+    requires accepted { G.tells → refusal limits.now (file_in ((G.state ground.old).files 3)) change (holding_of ((G.state ground.old).files 3) store.old) ≡ None }
+    requires bytes { HasBytes change }
+    requires references { All (Contains (kept_and store.old.contents.kept staged)) (references_of change.edits) }
+    requires keep { MayKeep store.old.contents staged }
+    requires staged { G.tells → IsStaged ((G.state ground.old).files 3) store.old.contents.kept staged }
+    requires fills { G.tells → IsTrue (fills_blobs limits.now (holding_of ((G.state ground.old).files 3) store.old).kept
+        (apply (file_in ((G.state ground.old).files 3)) change (holding_of ((G.state ground.old).files 3) store.old)).kept)
+        ↔ PassesBlobs store.old (references_of change.edits) staged }
+    requires file { IfSome file (λ f. Contains store.old.contents.kept f.now) }
+    ensures acts { G.tells → ActsFor limits.now line
+        (accept limits.now (stock_of (G.state ground.old) store.old) (file_in ((G.state ground.old).files 3)) change (head.now ++ rest_of ((G.state ground.old).files 3) (option_copied file.entry)))
+        result (G.state ground.old) (G.state ground.new) store.old store.new }
+    ensures ready { OnOk result (IsReady limits.now store.new) }
+    ensures tell_fault { IsErrOf result Stop.Tell → Rose (G.tell_faults ground.old line) (G.tell_faults ground.new line) }
+    ensures quiet { result ≢ Err Stop.Tell → G.tell_faults ground.new ≡ G.tell_faults ground.old }
+    ensures disk_fault { IsErrOf result Stop.Disk → Rose (G.disk_faults ground.old) (G.disk_faults ground.new) }
+    ensures disk_quiet { result ≢ Err Stop.Disk → G.disk_faults ground.new ≡ G.disk_faults ground.old }
+{
+    let _limits = limits;
+    let mut buf = buffer(alloc, file.is_some())?;
+    match outcome_of(store.commit(alloc, ground, change, staged)) {
+        Outcome::Done => tell_reply(store, ground, line, head, file, &mut buf),
+        Outcome::NoRoomForContents => tell_full(alloc, ground, line, Which::Blobs),
+        Outcome::NoRoomInJournal => tell_full(alloc, ground, line, Which::Journal),
+        Outcome::Device => Err(Stop::Disk),
+        Outcome::Memory => Err(Stop::Memory),
+    }
+}
+
+ghost use Rattle.std.specs.Option.{option_copied};
+
+// A buffer for blocks, where one is needed.
+fn buffer(alloc: Global, needed: bool) -> Result<Vec<u8>, AllocError>
+    ensures { IsTrue needed → IfOk result (λ v. 0 < length v.items) }
+{
+    if needed {
+        return vec![in alloc; 0u8; BLOCK];
+    }
+    Ok(Vec::new(alloc))
+}

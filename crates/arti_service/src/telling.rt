@@ -1,0 +1,66 @@
+// Replies are told.
+ghost use Rattle.std.specs.Prelude.{◌≡◌, ◌≢◌, ◌++◌, ℕ, List, OnOk, IfErr, IsErrOf, Err};
+ghost use Rattle.arti_ground.specs.State.{LeavesDisk, Passes, Rose};
+ghost use Rattle.arti_model.specs.Run.{memory_reply};
+ghost use Rattle.arti_service.specs.Cuts.{StopsTelling};
+ghost use Rattle.arti_service.specs.Moments.{Telling};
+
+use crate::answering::Stop;
+use crate::queries::MEMORY_REPLY;
+use arti_ground::{Failed, Ground};
+
+/// Tells a reply.
+pub fn tell<G: Ground>(ground: &mut G, line: u32, reply: &[u8]) -> Result<(), Stop>
+    ensures told { G.tells → OnOk result ((G.state ground.new).told line ≡ (G.state ground.old).told line ++ reply.now) }
+    ensures stops { G.tells → IfErr result (λ stop. StopsTelling stop reply.now ((G.state ground.old).told line) ((G.state ground.new).told line)) }
+    ensures time { G.tells → Passes (G.state ground.old) (G.state ground.new) (Telling (G.state ground.old) line reply.now) }
+    ensures tell_fault { IsErrOf result Stop.Tell → Rose (G.tell_faults ground.old line) (G.tell_faults ground.new line) }
+    ensures quiet { result ≢ Err Stop.Tell → G.tell_faults ground.new ≡ G.tell_faults ground.old }
+    ensures no_memory { result ≢ Err Stop.Memory }
+    ensures no_disk { result ≢ Err Stop.Disk }
+    ensures disk_faults { G.disk_faults ground.new ≡ G.disk_faults ground.old }
+    ensures disk { G.tells → LeavesDisk (G.state ground.old) (G.state ground.new) }
+{
+    match ground.tell(line, reply) {
+        Err(Failed) => Err(Stop::Tell),
+        Ok(()) => Ok(()),
+    }
+}
+
+/// Tells the two parts of one reply.
+pub fn tell_parts<G: Ground>(
+    ground: &mut G,
+    line: u32,
+    first: &[u8],
+    second: &[u8],
+) -> Result<(), Stop>
+    ensures told { G.tells → OnOk result ((G.state ground.new).told line ≡ (G.state ground.old).told line ++ (first.now ++ second.now)) }
+    ensures stops { G.tells → IfErr result (λ stop. StopsTelling stop (first.now ++ second.now) ((G.state ground.old).told line) ((G.state ground.new).told line)) }
+    ensures time { G.tells → Passes (G.state ground.old) (G.state ground.new) (Telling (G.state ground.old) line (first.now ++ second.now)) }
+    ensures tell_fault { IsErrOf result Stop.Tell → Rose (G.tell_faults ground.old line) (G.tell_faults ground.new line) }
+    ensures quiet { result ≢ Err Stop.Tell → G.tell_faults ground.new ≡ G.tell_faults ground.old }
+    ensures no_memory { result ≢ Err Stop.Memory }
+    ensures no_disk { result ≢ Err Stop.Disk }
+    ensures disk_faults { G.disk_faults ground.new ≡ G.disk_faults ground.old }
+    ensures disk { G.tells → LeavesDisk (G.state ground.old) (G.state ground.new) }
+{
+    match tell(ground, line, first) {
+        Err(stop) => Err(stop),
+        Ok(()) => tell(ground, line, second),
+    }
+}
+
+/// Tells that a request that only reads found too little memory.
+pub fn tell_memory<G: Ground>(ground: &mut G, line: u32) -> Result<(), Stop>
+    ensures told { G.tells → OnOk result ((G.state ground.new).told line ≡ (G.state ground.old).told line ++ memory_reply) }
+    ensures stops { G.tells → IfErr result (λ stop. StopsTelling stop memory_reply ((G.state ground.old).told line) ((G.state ground.new).told line)) }
+    ensures time { G.tells → Passes (G.state ground.old) (G.state ground.new) (Telling (G.state ground.old) line memory_reply) }
+    ensures tell_fault { IsErrOf result Stop.Tell → Rose (G.tell_faults ground.old line) (G.tell_faults ground.new line) }
+    ensures quiet { result ≢ Err Stop.Tell → G.tell_faults ground.new ≡ G.tell_faults ground.old }
+    ensures no_memory { result ≢ Err Stop.Memory }
+    ensures no_disk { result ≢ Err Stop.Disk }
+    ensures disk_faults { G.disk_faults ground.new ≡ G.disk_faults ground.old }
+    ensures disk { G.tells → LeavesDisk (G.state ground.old) (G.state ground.new) }
+{
+    tell(ground, line, &MEMORY_REPLY)
+}
