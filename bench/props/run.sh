@@ -2,11 +2,15 @@
 # Times `set`, `with`, `with_sha1` and `drop_id` at 1,000, 10,000, 100,000 and 1,000,000 live rows, each with three pairs
 # (one that a tenth of a per cent of the rows has, one that ten rows have, and one of its own) and digests of its own. The
 # times are nanoseconds a call, over calls that change or ask other rows each time; a `set` replaces a row and one of its
-# pairs. The last figures are the memory of the process for a row, and for one without digests, which say something from
-# 100,000 rows on. Time that grows as the rows do would be ten times as long on each line. It works in a copy, and leaves
-# nothing in the repository.
+# pairs. The last figures are memory: what a process with that many rows takes more at most than one with half as many, for
+# each row more, with digests and without; they say something from 100,000 rows on. Time that grows as the rows do would be ten
+# times as long on each line. It works in a copy, and leaves nothing in the repository.
 #
 #     bench/props/run.sh [ROWS..]
+#     bench/props/run.sh steps [ROWS..]
+#
+# The second form counts the instructions of `set`, `with` and `with_sha1` in the place of their time, by valgrind. That is
+# what they do, without what waiting for memory adds to it.
 set -e
 top=$(cd "$(dirname "$0")/../.." && pwd)
 copy=$(mktemp -d)
@@ -85,11 +89,20 @@ fn fill(alloc: Global, props: &mut Props, rows: u32) -> Result<(), AllocError> {
     Ok(())
 }
 
-// Rows without digests, for what they take.
-fn fill_bare(alloc: Global, rows: u32) -> Result<usize, AllocError> {
-    let mut props = Props::new(alloc)?;
+fn fill_bare(alloc: Global, props: &mut Props, rows: u32) -> Result<(), AllocError> {
     for id in 0..rows {
         props.set(alloc, id, pairs(alloc, id, 0)?.as_slice(), None)?;
+    }
+    Ok(())
+}
+
+// Rows alone, for what they take.
+fn rows_alone(alloc: Global, rows: u32, bare: bool) -> Result<usize, AllocError> {
+    let mut props = Props::new(alloc)?;
+    if bare {
+        fill_bare(alloc, &mut props, rows)?;
+    } else {
+        fill(alloc, &mut props, rows)?;
     }
     Ok(props.with("the.number.of.itself", "0").len())
 }
@@ -111,10 +124,10 @@ fn pairs_alone(alloc: Global, rows: u32, calls: u32) -> Result<usize, AllocError
     Ok(last)
 }
 
-fn with_calls(alloc: Global, props: &Props, rows: u32, calls: u32) -> Result<usize, AllocError> {
+fn with_calls(alloc: Global, props: &Props, rows: u32, from: u32, calls: u32) -> Result<usize, AllocError> {
     let mut found = 0;
     let mut value = String::new(alloc);
-    for turn in 0..calls {
+    for turn in from..from.saturating_add(calls) {
         value.clear();
         value.push_str(&format!(in alloc; "{}", picked(turn, rows) / 10)?)?;
         if !props.with("group.of.ten.of.them", &value).is_empty() {
@@ -124,9 +137,9 @@ fn with_calls(alloc: Global, props: &Props, rows: u32, calls: u32) -> Result<usi
     Ok(found)
 }
 
-fn digest_calls(props: &Props, rows: u32, calls: u32) -> usize {
+fn digest_calls(props: &Props, rows: u32, from: u32, calls: u32) -> usize {
     let mut found = 0;
-    for turn in 0..calls {
+    for turn in from..from.saturating_add(calls) {
         if !props.with_sha1(&digests(picked(turn, rows)).sha1).is_empty() {
             found = turn as usize;
         }
@@ -154,10 +167,10 @@ fn times(rt: &HostRuntime, rows: u32) -> io::Result<()> {
     set_calls(alloc, &mut props, rows, calls)?;
     let set_time = nanos(rt, start, calls)?;
     let start = Instant::now(rt)?;
-    let found = with_calls(alloc, &props, rows, calls)?;
+    let found = with_calls(alloc, &props, rows, 0, calls)?;
     let with_time = nanos(rt, start, calls)?;
     let start = Instant::now(rt)?;
-    let digest_found = digest_calls(&props, rows, calls);
+    let digest_found = digest_calls(&props, rows, 0, calls);
     let digest_time = nanos(rt, start, calls)?;
     let few = if rows < calls { rows / 2 } else { calls };
     let start = Instant::now(rt)?;
@@ -166,31 +179,81 @@ fn times(rt: &HostRuntime, rows: u32) -> io::Result<()> {
     println!(rt; "{rows} rows: first set {fill_time} ns, set {set_time} ns (of it making the pairs {alone_time} ns), with {with_time} ns, with_sha1 {digest_time} ns, drop_id {drop_time} ns ({made} {found} {digest_found})")
 }
 
+// Some turns of 1,000 calls each, for who counts their instructions.
+fn turns(alloc: Global, rows: u32, sets: u32, withs: u32, digests: u32) -> Result<usize, AllocError> {
+    let mut props = Props::new(alloc)?;
+    fill(alloc, &mut props, rows)?;
+    let mut found = 0usize;
+    for _turn in 0..sets {
+        set_calls(alloc, &mut props, rows, 1_000)?;
+    }
+    for turn in 0..withs {
+        found = found.wrapping_add(with_calls(alloc, &props, rows, turn, 1_000)?);
+    }
+    for turn in 0..digests {
+        found = found.wrapping_add(digest_calls(&props, rows, turn, 1_000));
+    }
+    Ok(found)
+}
+
+fn number(word: Option<String>) -> io::Result<u32> {
+    match word {
+        Some(word) => match word.as_str().parse::<u32>() {
+            Ok(n) => Ok(n),
+            _ => Err(io::Error::from(io::ErrorKind::Other)),
+        },
+        None => Err(io::Error::from(io::ErrorKind::Other)),
+    }
+}
+
 fn main(rt: HostRuntime) -> io::Result<()> {
-    for word in env::args(&rt)?.skip(1) {
-        if let Some(word) = word.strip_prefix("bare:") {
-            if let Ok(rows) = word.parse::<u32>() {
-                fill_bare(rt.alloc(), rows)?;
-            }
-        } else if let Ok(rows) = word.parse::<u32>() {
-            times(&rt, rows)?;
-        }
+    let mut words = env::args(&rt)?;
+    let _program = words.next();
+    let rows = number(words.next())?;
+    let Some(kind) = words.next() else {
+        return times(&rt, rows);
+    };
+    if kind.as_str() == "turns" {
+        turns(rt.alloc(), rows, number(words.next())?, number(words.next())?, number(words.next())?)?;
+    } else {
+        rows_alone(rt.alloc(), rows, kind.as_str() == "bare")?;
     }
     Ok(())
 }
 PROGRAM
 cd "$copy/crates/arti_props_times"
 rt run -- 10 > "$copy/log"
+if [ "${1-}" = steps ]; then
+    shift
+    python3 - ${*:-1000 10000 100000} <<'STEPS'
+import re, subprocess, sys
+def count(rows, *turns):
+    words = ["valgrind", "--tool=callgrind", "--callgrind-out-file=/dev/null", "out/arti_props_times", rows, "turns", *map(str, turns)]
+    told = subprocess.run(words, capture_output=True, text=True, check=True).stderr
+    return int(re.search("Collected : ([0-9]+)", told)[1])
+first = None
+for rows in sys.argv[1:]:
+    once = count(rows, 1, 1, 1)
+    steps = [(count(rows, *turns) - once) // 10_000 for turns in ((11, 1, 1), (1, 11, 1), (1, 1, 11))]
+    first = first or steps
+    parts = [f"{name} {n} instructions ({n / base:.2f})" for name, n, base in zip(("set", "with", "with_sha1"), steps, first)]
+    print(f"{rows} rows: {', '.join(parts)}", flush=True)
+STEPS
+    exit
+fi
 python3 - ${*:-1000 10000 100000 1000000} <<'TIMES'
 import os, subprocess, sys
-def run(word):
-    child = subprocess.Popen(["out/arti_props_times", word], stdout=subprocess.PIPE)
+def run(*words):
+    child = subprocess.Popen(["out/arti_props_times", *words], stdout=subprocess.PIPE)
     line = child.stdout.read().decode().strip()
     _, status, usage = os.wait4(child.pid, 0)
     assert status == 0, status
     return line, usage.ru_maxrss * 1024
+def a_row(kind, rows):
+    half = rows // 2
+    return (run(str(rows), kind)[1] - run(str(half), kind)[1]) // (rows - half)
 for rows in sys.argv[1:]:
-    line, memory = run(rows)
-    _, bare = run(f"bare:{rows}")
-    print(f"{line}, {memory // int(rows)} bytes a row, {bare // int(rows)} without digests", flush=True)
+    line, _ = run(rows)
+    whole, bare = (a_row(kind, int(rows)) for kind in ("whole", "bare"))
+    print(f"{line}, {whole} bytes a row, {bare} without digests", flush=True)
 TIMES

@@ -1,10 +1,14 @@
 #!/bin/bash
 # Times a tree of 1,000, 10,000, 100,000 and 1,000,000 files in 64 folders: in nanoseconds for one put of a new key, one look-up
-# by key, one rank and one removal, each over 1,000 of them, and the ratio to the time at 1,000 files. The last figure is the
-# memory of the process for a file, which says something from 100,000 files on. It works in a copy, and leaves nothing in the
-# repository.
+# by key, one rank and one removal, each over 1,000 of them, and the ratio to the time at 1,000 files. The last figure is
+# memory: what a process with that many files takes more at most than one with half as many, for each file more, which says
+# something from 100,000 files on. It works in a copy, and leaves nothing in the repository.
 #
 #     bench/tree/run.sh [SIZE..]      other numbers of files
+#     bench/tree/run.sh steps [SIZE..]
+#
+# The second form counts the instructions of a look-up by key and of a rank in the place of their time, by valgrind. That is
+# what they do, without what waiting for memory adds to it.
 set -e
 top=$(cd "$(dirname "$0")/../.." && pwd)
 copy=$(mktemp -d)
@@ -106,10 +110,8 @@ fn remove_all(tree: &mut Tree, ids: &[u32]) -> bool {
     all
 }
 
-fn size(rt: &HostRuntime) -> io::Result<u32> {
-    let mut words = env::args(rt)?;
-    let _program = words.next();
-    match words.next() {
+fn number(word: Option<String>) -> io::Result<u32> {
+    match word {
         Some(word) => match word.as_str().parse::<u32>() {
             Ok(n) if n < 1_000_000_000 => Ok(n),
             _ => Err(failed()),
@@ -118,10 +120,30 @@ fn size(rt: &HostRuntime) -> io::Result<u32> {
     }
 }
 
+// Some turns of look-ups and of ranks, for who counts their instructions.
+fn look_up(rt: &HostRuntime, tree: &Tree, gets: u32, rank_turns: u32) -> io::Result<()> {
+    let keys = keys(rt.alloc(), 0, 1_000)?;
+    let mut ids = Vec::new(rt.alloc());
+    for _turn in 0..gets {
+        ids = find_all(rt.alloc(), tree, keys.as_slice())?;
+    }
+    let mut mixed = 0u32;
+    for _turn in 0..rank_turns {
+        mixed = mixed.wrapping_add(ranks(tree, ids.as_slice()));
+    }
+    println!(rt; "{mixed}")
+}
+
 fn main(rt: HostRuntime) -> io::Result<()> {
-    let n = size(&rt)?;
+    let mut words = env::args(&rt)?;
+    let _program = words.next();
+    let n = number(words.next())?;
+    let gets = words.next();
     let mut tree = Tree::new(rt.alloc())?;
     fill(rt.alloc(), &mut tree, n)?;
+    if gets.is_some() {
+        return look_up(&rt, &tree, number(gets)?, number(words.next())?);
+    }
     let more = keys(rt.alloc(), n, n.saturating_add(1_000))?;
     let again = keys(rt.alloc(), n, n.saturating_add(1_000))?;
     let start = Instant::now(&rt)?;
@@ -140,18 +162,45 @@ fn main(rt: HostRuntime) -> io::Result<()> {
 }
 PROGRAM
 (cd "$times" && rt run -- 1000 > "$copy/built" 2>&1) || { cat "$copy/built"; exit 1; }
+if [ "${1-}" = steps ]; then
+    shift
+    python3 - "$times/out/arti_tree_times" "${@:-1000 10000 100000}" <<'REPORT'
+import re, subprocess, sys
+
+def count(size, gets, ranks):
+    words = ['valgrind', '--tool=callgrind', '--callgrind-out-file=/dev/null', sys.argv[1], size, str(gets), str(ranks)]
+    told = subprocess.run(words, capture_output=True, text=True, check=True).stderr
+    return int(re.search('Collected : ([0-9]+)', told)[1])
+
+first = None
+for size in ' '.join(sys.argv[2:]).split():
+    once = count(size, 1, 1)
+    steps = [(count(size, gets, ranks) - once) // 10_000 for gets, ranks in ((11, 1), (1, 11))]
+    first = first or steps
+    parts = [f'{name} {n} instructions ({n / base:.2f})' for name, n, base in zip(('get', 'rank'), steps, first)]
+    print(f'{size} files: {", ".join(parts)}', flush=True)
+REPORT
+    exit
+fi
 python3 - "$times/out/arti_tree_times" "${@:-1000 10000 100000 1000000}" <<'REPORT'
-import resource, subprocess, sys
+import os, subprocess, sys
+
+def run(size):
+    child = subprocess.Popen([sys.argv[1], size], stdout=subprocess.PIPE, text=True)
+    words = child.stdout.read().split()
+    _, status, usage = os.wait4(child.pid, 0)
+    assert status == 0, status
+    return [int(word) for word in words[:4]], usage.ru_maxrss * 1024
 
 first = None
 for size in ' '.join(sys.argv[2:]).split():
     best = None
     for _ in range(3):
-        words = subprocess.run([sys.argv[1], size], capture_output=True, text=True, check=True).stdout.split()
-        times = [int(word) for word in words[:4]]
+        times, memory = run(size)
         best = times if best is None else [min(pair) for pair in zip(best, times)]
     first = first or best
-    memory = resource.getrusage(resource.RUSAGE_CHILDREN).ru_maxrss
     parts = [f'{name} {time} ns ({time / base:.1f})' for name, time, base in zip(('put', 'get', 'rank', 'remove'), best, first)]
-    print(f'{size} files: {", ".join(parts)}; {memory} KiB at most, {memory * 1024 // int(size)} bytes a file', flush=True)
+    half = int(size) // 2
+    _, less = run(str(half))
+    print(f'{size} files: {", ".join(parts)}; {(memory - less) // (int(size) - half)} bytes a file', flush=True)
 REPORT

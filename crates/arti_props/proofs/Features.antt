@@ -1,5 +1,5 @@
 -- What a change of digests does to the lists of each feature.
-use Rattle.std.proofs.Common.{◌≡◌, ℕ, Bool, true, false, List, [], refl, sym, ap, ◌∙◌, inl, Option, Some, None, subst}
+use Rattle.std.proofs.Common.{◌≡◌, ℕ, Bool, true, false, List, [], refl, sym, ap, ◌∙◌, Option, Some, None, subst}
 use Rattle.std.specs.Prelude.{if◌then◌else◌}
 use Rattle.std.specs.Ordering.{nat_cmp}
 use Rattle.std.specs.Cmp.Lexicographic.{slice_cmp}
@@ -10,7 +10,7 @@ use Rattle.std.proofs.lemmas.Slice.Eq.{bytes_eq-Decides}
 use Rattle.arti_rows.specs.declared.rows.Digests.{Digests}
 use Rattle.arti_props.specs.declared.index.Index.{Index}
 use Rattle.arti_props.specs.Ids.{IdList}
-use Rattle.arti_props.specs.Lists.{ids_of, HasRoom, IsReady}
+use Rattle.arti_props.specs.Lists.{ids_of, IsReady}
 use Rattle.arti_props.specs.declared.lists.Lists.{Lists as Kept_lists}
 use Rattle.arti_props.specs.Found.{found as found_by}
 use Rattle.arti_props.specs.Rows.{Feature, Pair, Md5, Sha1, Sha256, has_digest, has}
@@ -29,10 +29,6 @@ found lists digest = found_by (slice_cmp nat_cmp) lists digest
 
 pub same_digest : (d : List ℕ) → bytes_eq d d ≡ true
 same_digest d = (bytes_eq-Decides d d).1 refl
-
-pub ready_of : (id : ℕ) (o : Option IdList) → HasRoom o → IsReady id o
-ready_of id (Some list) room = inl room
-ready_of id None room = room
 
 -- the list of one digest changes
 abbrev pub Turns : (List ℕ → List ℕ) → List ℕ → Lists → Lists → Type 0
@@ -57,22 +53,22 @@ stay_all old new values md5 sha1 sha256 (Md5 d) = md5 d
 stay_all old new values md5 sha1 sha256 (Sha1 d) = sha1 d
 stay_all old new values md5 sha1 sha256 (Sha256 d) = sha256 d
 
-abbrev pub Keeps : Lists → Lists → Type 0
-Keeps old new = (d : List ℕ) → HasRoom (found old d) → HasRoom (found new d)
+abbrev pub Keeps : ℕ → Lists → Lists → Type 0
+Keeps id old new = (d : List ℕ) → IsReady id (found old d) → IsReady id (found new d)
 
-pub keep_all : (old new : Index) → new.values ≡ old.values → Keeps old.md5s new.md5s → Keeps old.sha1s new.sha1s → Keeps old.sha256s new.sha256s → (f : Feature) → HasRoom (list_of old f) → HasRoom (list_of new f)
-keep_all old new values md5 sha1 sha256 (Pair k v) was = subst (λ m. HasRoom (list_of (record old { values = m }) (Pair k v))) (sym values) was
-keep_all old new values md5 sha1 sha256 (Md5 d) was = md5 d was
-keep_all old new values md5 sha1 sha256 (Sha1 d) was = sha1 d was
-keep_all old new values md5 sha1 sha256 (Sha256 d) was = sha256 d was
+pub keep_all : (id : ℕ) (old new : Index) → new.values ≡ old.values → Keeps id old.md5s new.md5s → Keeps id old.sha1s new.sha1s → Keeps id old.sha256s new.sha256s → (f : Feature) → IsReady id (list_of old f) → IsReady id (list_of new f)
+keep_all id old new values md5 sha1 sha256 (Pair k v) was = subst (λ m. IsReady id (list_of (record old { values = m }) (Pair k v))) (sym values) was
+keep_all id old new values md5 sha1 sha256 (Md5 d) was = md5 d was
+keep_all id old new values md5 sha1 sha256 (Sha1 d) was = sha1 d was
+keep_all id old new values md5 sha1 sha256 (Sha256 d) was = sha256 d was
 
 -- where a row has digests, what they have it has
-pub digest_room : (old new : Index) (digests : Digests) (row : Row) → new.md5s ≡ old.md5s → new.sha1s ≡ old.sha1s → new.sha256s ≡ old.sha256s → row.digests ≡ Some digests → ((f : Feature) → has f row ≡ true → HasRoom (list_of old f))
-    → (f : Feature) → has_digest f digests ≡ true → HasRoom (list_of new f)
-digest_room old new digests row md5 sha1 sha256 is room (Pair k v) has = absurd (false≢true has)
-digest_room old new digests row md5 sha1 sha256 is room (Md5 d) has = subst (λ (m : Lists). HasRoom (found m d)) (sym md5) (room (Md5 d) (ap (λ o. option_map_or (has_digest (Md5 d)) o false) is ∙ has))
-digest_room old new digests row md5 sha1 sha256 is room (Sha1 d) has = subst (λ (m : Lists). HasRoom (found m d)) (sym sha1) (room (Sha1 d) (ap (λ o. option_map_or (has_digest (Sha1 d)) o false) is ∙ has))
-digest_room old new digests row md5 sha1 sha256 is room (Sha256 d) has = subst (λ (m : Lists). HasRoom (found m d)) (sym sha256) (room (Sha256 d) (ap (λ o. option_map_or (has_digest (Sha256 d)) o false) is ∙ has))
+pub digest_ready : (id : ℕ) (old new : Index) (digests : Digests) (row : Row) → new.md5s ≡ old.md5s → new.sha1s ≡ old.sha1s → new.sha256s ≡ old.sha256s → row.digests ≡ Some digests → ((f : Feature) → has f row ≡ true → IsReady id (list_of old f))
+    → (f : Feature) → has_digest f digests ≡ true → IsReady id (list_of new f)
+digest_ready id old new digests row md5 sha1 sha256 is ready (Pair k v) has = absurd (false≢true has)
+digest_ready id old new digests row md5 sha1 sha256 is ready (Md5 d) has = subst (λ (m : Lists). IsReady id (found m d)) (sym md5) (ready (Md5 d) (ap (λ o. option_map_or (has_digest (Md5 d)) o false) is ∙ has))
+digest_ready id old new digests row md5 sha1 sha256 is ready (Sha1 d) has = subst (λ (m : Lists). IsReady id (found m d)) (sym sha1) (ready (Sha1 d) (ap (λ o. option_map_or (has_digest (Sha1 d)) o false) is ∙ has))
+digest_ready id old new digests row md5 sha1 sha256 is ready (Sha256 d) has = subst (λ (m : Lists). IsReady id (found m d)) (sym sha256) (ready (Sha256 d) (ap (λ o. option_map_or (has_digest (Sha256 d)) o false) is ∙ has))
 
 -- no list where none is found
 pub none_all : (index : Index) → index.values.entries ≡ [] → ((d : List ℕ) → found index.md5s d ≡ None) → ((d : List ℕ) → found index.sha1s d ≡ None) → ((d : List ℕ) → found index.sha256s d ≡ None) → (f : Feature) → ids_of (list_of index f) ≡ []
@@ -81,12 +77,12 @@ none_all index values md5 sha1 sha256 (Md5 d) = ap ids_of (md5 d)
 none_all index values md5 sha1 sha256 (Sha1 d) = ap ids_of (sha1 d)
 none_all index values md5 sha1 sha256 (Sha256 d) = ap ids_of (sha256 d)
 
-room_of : (lists : Lists) (digest d : List ℕ) → HasRoom (found lists digest) → bytes_eq digest d ≡ true → HasRoom (found lists d)
-room_of lists digest d room same = subst (λ (e : List ℕ). HasRoom (found lists e)) ((bytes_eq-Decides digest d).0 same) room
+ready_of : (id : ℕ) (lists : Lists) (digest d : List ℕ) → IsReady id (found lists digest) → bytes_eq digest d ≡ true → IsReady id (found lists d)
+ready_of id lists digest d ready same = subst (λ (e : List ℕ). IsReady id (found lists e)) ((bytes_eq-Decides digest d).0 same) ready
 
--- room for each of the digests
-pub room_all : (digests : Digests) (index : Index) → HasRoom (found index.md5s digests.md5) → HasRoom (found index.sha1s digests.sha1) → HasRoom (found index.sha256s digests.sha256) → (f : Feature) → has_digest f digests ≡ true → HasRoom (list_of index f)
-room_all digests index md5 sha1 sha256 (Pair k v) has = absurd (false≢true has)
-room_all digests index md5 sha1 sha256 (Md5 d) has = room_of index.md5s digests.md5 d md5 has
-room_all digests index md5 sha1 sha256 (Sha1 d) has = room_of index.sha1s digests.sha1 d sha1 has
-room_all digests index md5 sha1 sha256 (Sha256 d) has = room_of index.sha256s digests.sha256 d sha256 has
+-- ready for each of the digests
+pub ready_all : (id : ℕ) (digests : Digests) (index : Index) → IsReady id (found index.md5s digests.md5) → IsReady id (found index.sha1s digests.sha1) → IsReady id (found index.sha256s digests.sha256) → (f : Feature) → has_digest f digests ≡ true → IsReady id (list_of index f)
+ready_all id digests index md5 sha1 sha256 (Pair k v) has = absurd (false≢true has)
+ready_all id digests index md5 sha1 sha256 (Md5 d) has = ready_of id index.md5s digests.md5 d md5 has
+ready_all id digests index md5 sha1 sha256 (Sha1 d) has = ready_of id index.sha1s digests.sha1 d sha1 has
+ready_all id digests index md5 sha1 sha256 (Sha256 d) has = ready_of id index.sha256s digests.sha256 d sha256 has

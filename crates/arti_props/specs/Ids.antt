@@ -1,12 +1,20 @@
 -- Ascending lists of ids.
 use Rattle.std.specs.Prelude.{ℕ, nat_lt, List, [], ◌∷◌, ◌++◌}
-use Rattle.std.specs.Prelude.{◌<◌, All}
-use Rattle.std.specs.List.{filter}
+use Rattle.std.specs.Prelude.{◌≡◌, ◌<◌, ◌⊎◌, ◌==◌, true, length, All}
+use Rattle.std.specs.List.{filter, list_any}
 
 -- the ids of a list, and for how many it has room
 pub record IdList : Type 0 where
   pub ids : List ℕ
   pub capacity : ℕ
+
+-- the id fits into ids without an allocation: there is room for one more, or it is there
+abbrev pub Fits : ℕ → List ℕ → ℕ → Type 0
+Fits id ids capacity = (length ids < capacity) ⊎ (list_any (λ x. x == id) ids ≡ true)
+
+-- the list takes the id without an allocation
+abbrev pub Takes : ℕ → IdList → Type 0
+Takes id list = Fits id list.ids list.capacity
 
 -- each id is below all that follow
 abbrev pub Ascends : {X : Type 0} → (X → ℕ) → List X → Type 0

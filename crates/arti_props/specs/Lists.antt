@@ -1,21 +1,16 @@
 -- Lists of ids that are found in maps. A list that isn't there counts as an empty one.
-use Rattle.std.specs.Prelude.{◌≡◌, ℕ, ◌<◌, ◌⊎◌, ◌==◌, true, List, [], length, Option, None, Some, MatchOption}
+use Rattle.std.specs.Prelude.{ℕ, List, [], Option, None, Some, MatchOption}
 use Rattle.std.specs.Option.{option_map_or}
-use Rattle.std.specs.List.{list_any}
 use Rattle.std.specs.Prelude.{String}
 use Rattle.std.specs.BTreeMap.{BTreeMap, get_by_text}
-use Rattle.arti_props.specs.Ids.{IdList}
+use Rattle.arti_props.specs.Ids.{IdList, Takes}
 
 abbrev pub ids_of : Option IdList → List ℕ
 ids_of found = option_map_or (λ list. list.ids) found []
 
--- the list is there, and takes one id more without an allocation
-abbrev pub HasRoom : Option IdList → Type 0
-HasRoom found = MatchOption found ⊥ (λ list. length list.ids < list.capacity)
-
 -- the list is there, and takes this id without an allocation
 abbrev pub IsReady : ℕ → Option IdList → Type 0
-IsReady id found = MatchOption found ⊥ (λ list. (length list.ids < list.capacity) ⊎ (list_any (λ x. x == id) list.ids ≡ true))
+IsReady id found = MatchOption found ⊥ (Takes id)
 
 abbrev pub list_in : {Y : Type 0} → Option (BTreeMap (String Y) IdList) → List ℕ → Option IdList
 list_in None text = None

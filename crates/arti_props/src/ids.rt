@@ -1,9 +1,8 @@
 // An ascending list of ids.
-ghost use Rattle.std.specs.Prelude.{◌≡◌, ◌<◌, ◌⊎◌, ◌==◌, ◌∷◌, [], true, length, vec_capacity, IfOk, OnOk};
-ghost use Rattle.std.specs.List.{list_any};
+ghost use Rattle.std.specs.Prelude.{◌≡◌, ◌<◌, ◌∷◌, [], vec_capacity, IfOk, OnOk};
 ghost use Rattle.std.specs.Ordering.{nat_cmp};
 ghost use Rattle.std.specs.List.Sorted.{IsStrictlySortedBy};
-ghost use Rattle.arti_props.specs.Ids.{Ascends, with_id, without_id};
+ghost use Rattle.arti_props.specs.Ids.{Ascends, Fits, Takes, with_id, without_id};
 
 use crate::kept::Kept;
 use std::alloc::{AllocError, Global};
@@ -57,16 +56,18 @@ impl Ids {
         }
     }
 
-    /// Room for one more.
-    pub(crate) fn make_room(&mut self, alloc: Global) -> Result<(), AllocError>
+    /// Room for the id, unless it stands there alone.
+    pub(crate) fn make_room(&mut self, alloc: Global, id: u32) -> Result<(), AllocError>
         ensures ids { self.new.ids ≡ self.old.ids }
-        ensures room { OnOk result (length self.new.ids < self.new.capacity) }
+        ensures ready { OnOk result (Takes id self.new) }
     {
         match &mut self.kept {
             Kept::Empty => Ok(()),
-            Kept::One(id) => {
-                let id = *id;
-                self.kept = Kept::Many(beside(alloc, id)?);
+            Kept::One(one) => {
+                let one = *one;
+                if one != id {
+                    self.kept = Kept::Many(beside(alloc, one)?);
+                }
                 Ok(())
             }
             Kept::Many(ids) => ids.reserve(1),
@@ -75,7 +76,7 @@ impl Ids {
 
     /// The id is among them.
     pub(crate) fn add(&mut self, id: u32)
-        requires room { (length self.old.ids < self.old.capacity) ⊎ (list_any (λ x. x == id) self.old.ids ≡ true) }
+        requires ready { Takes id self.old }
         ensures ids { self.new.ids ≡ with_id id self.old.ids }
     {
         match &mut self.kept {
@@ -88,7 +89,7 @@ impl Ids {
     /// The id isn't among them.
     pub(crate) fn remove(&mut self, id: u32)
         ensures ids { self.new.ids ≡ without_id id self.old.ids }
-        ensures room { length self.old.ids < self.old.capacity → length self.new.ids < self.new.capacity }
+        ensures ready { Takes id self.old → Takes id self.new }
     {
         match &mut self.kept {
             Kept::Empty => {}
@@ -115,7 +116,7 @@ fn beside(alloc: Global, id: u32) -> Result<Box<Vec<u32>>, AllocError>
 // The id is among them.
 fn add_to(ids: &mut Vec<u32>, id: u32)
     requires ascend { Ascends (λ x. x) ids.old.items }
-    requires room { (length ids.old.items < vec_capacity ids.old) ⊎ (list_any (λ x. x == id) ids.old.items ≡ true) }
+    requires ready { Fits id ids.old.items (vec_capacity ids.old) }
     ensures ids { ids.new.items ≡ with_id id ids.old.items }
     ensures ascend { Ascends (λ x. x) ids.new.items }
 {
@@ -132,7 +133,7 @@ fn remove_from(ids: &mut Vec<u32>, id: u32)
     requires ascend { Ascends (λ x. x) ids.old.items }
     ensures ids { ids.new.items ≡ without_id id ids.old.items }
     ensures ascend { Ascends (λ x. x) ids.new.items }
-    ensures room { length ids.old.items < vec_capacity ids.old → length ids.new.items < vec_capacity ids.new }
+    ensures ready { Fits id ids.old.items (vec_capacity ids.old) → Fits id ids.new.items (vec_capacity ids.new) }
 {
     match ids.binary_search(&id) {
         Ok(place) => {

@@ -4,7 +4,7 @@ ghost use Rattle.std.specs.BTreeMap.{is_at};
 ghost use Rattle.std.specs.Ordering.{nat_cmp};
 ghost use Rattle.std.specs.List.Sorted.{IsStrictlySortedBy};
 ghost use Rattle.arti_props.specs.Ids.{with_id, without_id};
-ghost use Rattle.arti_props.specs.Lists.{ids_of, HasRoom, IsReady};
+ghost use Rattle.arti_props.specs.Lists.{ids_of, IsReady};
 ghost use Rattle.arti_props.specs.Found.{found};
 
 use crate::ids::Ids;
@@ -44,26 +44,29 @@ pub(crate) fn list<'a, K: Ord>(lists: &'a Lists<K>, key: &K) -> &'a [u32]
     }
 }
 
-/// Room for one more id in the list under a key.
+/// Room for the id in the list under a key, unless it stands there alone.
 pub(crate) fn make_room<K: Ord + Copy + Drop>(
     alloc: Global,
     lists: &mut Lists<K>,
     key: &K,
+    id: u32,
 ) -> Result<(), AllocError>
     ensures ids { (q : K) → ids_of (found K.cmp lists.new q) ≡ ids_of (found K.cmp lists.old q) }
-    ensures room { OnOk result (HasRoom (found K.cmp lists.new key.now)) }
+    ensures ready { OnOk result (IsReady id (found K.cmp lists.new key.now)) }
 {
     if let Some(ids) = lists.many.get_mut(key) {
-        return ids.make_room(alloc);
+        return ids.make_room(alloc, id);
     }
     match lists.ones.get(key) {
         None => {
             lists.ones.insert(*key, None)?;
         }
         Some(None) => {}
-        Some(Some(id)) => {
-            let ids = Ids::beside(alloc, *id)?;
-            lists.many.insert(*key, ids)?;
+        Some(Some(one)) => {
+            if *one != id {
+                let ids = Ids::beside(alloc, *one)?;
+                lists.many.insert(*key, ids)?;
+            }
         }
     }
     Ok(())
@@ -84,7 +87,7 @@ pub(crate) fn add<K: Ord>(lists: &mut Lists<K>, key: &K, id: u32)
 /// The id isn't in the list under a key.
 pub(crate) fn remove<K: Ord>(lists: &mut Lists<K>, key: &K, id: u32)
     ensures ids { (q : K) → ids_of (found K.cmp lists.new q) ≡ (if is_at (K.cmp key.now) q then without_id id (ids_of (found K.cmp lists.old q)) else ids_of (found K.cmp lists.old q)) }
-    ensures room { (q : K) → HasRoom (found K.cmp lists.old q) → HasRoom (found K.cmp lists.new q) }
+    ensures ready { (q : K) → IsReady id (found K.cmp lists.old q) → IsReady id (found K.cmp lists.new q) }
 {
     if let Some(ids) = lists.many.get_mut(key) {
         ids.remove(id);

@@ -130,7 +130,7 @@ fn put(
     ensures set { OnOk result (rows.new ≡ set_row id row rows.old) }
     ensures unchanged { OnErr result (rows.new ≡ rows.old) }
 {
-    if let Err(error) = indexing::make_room(alloc, index, &row) {
+    if let Err(error) = indexing::make_room(alloc, index, &row, id) {
         indexing::tidy(index, Some(&row));
         return Err(error);
     }

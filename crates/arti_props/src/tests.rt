@@ -135,6 +135,12 @@ fn every_list_after_each_change(rt: HostRuntime) -> Result<(), Fail> {
         (1, None, None),
         (2, None, None),
         (2, Some("a=2"), Some(8)),
+        (2, Some("b=1"), Some(8)),
+        (1, Some("b=1"), Some(8)),
+        (2, Some("b=1"), Some(8)),
+        (2, Some(""), Some(7)),
+        (1, None, None),
+        (2, None, None),
     ] {
         plain.retain(|row| row.id != id);
         match text {

@@ -5,7 +5,7 @@ ghost use Rattle.std.specs.Str.{bytes_eq};
 ghost use Rattle.std.specs.Ordering.{nat_cmp};
 ghost use Rattle.std.specs.List.Sorted.{IsStrictlySortedBy};
 ghost use Rattle.arti_props.specs.Ids.{with_id, without_id};
-ghost use Rattle.arti_props.specs.Lists.{ids_of, HasRoom, IsReady};
+ghost use Rattle.arti_props.specs.Lists.{ids_of, IsReady};
 
 use crate::ids::Ids;
 use std::alloc::{AllocError, Global};
@@ -22,18 +22,19 @@ pub(crate) fn list<'a>(lists: &'a BTreeMap<String, Ids>, text: &str) -> &'a [u32
     }
 }
 
-/// Room for one more id in the list under a text.
+/// Room for the id in the list under a text, unless it stands there alone.
 pub(crate) fn make_room(
     alloc: Global,
     lists: &mut BTreeMap<String, Ids>,
     text: &str,
+    id: u32,
 ) -> Result<(), AllocError>
     ensures ids { (t : List ℕ) → ids_of (get_by_text lists.new t) ≡ ids_of (get_by_text lists.old t) }
-    ensures room { OnOk result (HasRoom (get_by_text lists.new text.now)) }
-    ensures keeps { OnOk result ((t : List ℕ) → HasRoom (get_by_text lists.old t) → HasRoom (get_by_text lists.new t)) }
+    ensures ready { OnOk result (IsReady id (get_by_text lists.new text.now)) }
+    ensures keeps { OnOk result ((t : List ℕ) → IsReady id (get_by_text lists.old t) → IsReady id (get_by_text lists.new t)) }
 {
     if let Some(ids) = lists.get_mut(text) {
-        return ids.make_room(alloc);
+        return ids.make_room(alloc, id);
     }
     lists.insert(String::from_str(alloc, text)?, Ids::new())?;
     Ok(())
@@ -53,7 +54,7 @@ pub(crate) fn add(lists: &mut BTreeMap<String, Ids>, text: &str, id: u32)
 /// The id isn't in the list under a text.
 pub(crate) fn remove(lists: &mut BTreeMap<String, Ids>, text: &str, id: u32)
     ensures ids { (t : List ℕ) → ids_of (get_by_text lists.new t) ≡ (if bytes_eq text.now t then without_id id (ids_of (get_by_text lists.old t)) else ids_of (get_by_text lists.old t)) }
-    ensures room { (t : List ℕ) → HasRoom (get_by_text lists.old t) → HasRoom (get_by_text lists.new t) }
+    ensures ready { (t : List ℕ) → IsReady id (get_by_text lists.old t) → IsReady id (get_by_text lists.new t) }
 {
     if let Some(ids) = lists.get_mut(text) {
         ids.remove(id);

@@ -5,7 +5,7 @@ ghost use Rattle.std.specs.List.{list_any};
 ghost use Rattle.std.specs.Ordering.{nat_cmp};
 ghost use Rattle.std.specs.List.Sorted.{IsStrictlySortedBy};
 ghost use Rattle.arti_props.specs.Ids.{with_id, without_id};
-ghost use Rattle.arti_props.specs.Lists.{ids_of, HasRoom, IsReady, list_at};
+ghost use Rattle.arti_props.specs.Lists.{ids_of, IsReady, list_at};
 ghost use Rattle.arti_props.specs.Rows.{is_pair};
 
 use crate::ids::Ids;
@@ -34,16 +34,17 @@ fn make_room(
     values: &mut BTreeMap<String, BTreeMap<String, Ids>>,
     key: &str,
     value: &str,
+    id: u32,
 ) -> Result<(), AllocError>
     ensures ids { (k v : List ℕ) → ids_of (list_at values.new k v) ≡ ids_of (list_at values.old k v) }
-    ensures room { OnOk result (HasRoom (list_at values.new key.now value.now)) }
-    ensures keeps { OnOk result ((k v : List ℕ) → HasRoom (list_at values.old k v) → HasRoom (list_at values.new k v)) }
+    ensures ready { OnOk result (IsReady id (list_at values.new key.now value.now)) }
+    ensures keeps { OnOk result ((k v : List ℕ) → IsReady id (list_at values.old k v) → IsReady id (list_at values.new k v)) }
 {
     if let Some(lists) = values.get_mut(key) {
-        return texts::make_room(alloc, lists, value);
+        return texts::make_room(alloc, lists, value, id);
     }
     let mut lists = BTreeMap::new(alloc);
-    texts::make_room(alloc, &mut lists, value)?;
+    texts::make_room(alloc, &mut lists, value, id)?;
     values.insert(String::from_str(alloc, key)?, lists)?;
     Ok(())
 }
@@ -60,7 +61,7 @@ fn add(values: &mut BTreeMap<String, BTreeMap<String, Ids>>, key: &str, value: &
 
 fn remove(values: &mut BTreeMap<String, BTreeMap<String, Ids>>, key: &str, value: &str, id: u32)
     ensures ids { (k v : List ℕ) → ids_of (list_at values.new k v) ≡ (if bytes_eq key.now k && bytes_eq value.now v then without_id id (ids_of (list_at values.old k v)) else ids_of (list_at values.old k v)) }
-    ensures room { (k v : List ℕ) → HasRoom (list_at values.old k v) → HasRoom (list_at values.new k v) }
+    ensures ready { (k v : List ℕ) → IsReady id (list_at values.old k v) → IsReady id (list_at values.new k v) }
 {
     if let Some(lists) = values.get_mut(key) {
         texts::remove(lists, value, id);
@@ -89,17 +90,18 @@ fn tidy_key(values: &mut BTreeMap<String, BTreeMap<String, Ids>>, key: &str, val
     }
 }
 
-/// Room for one more id in the list under each of the pairs.
+/// Room for the id in the list under each of the pairs, unless it stands there alone.
 pub(crate) fn make_rooms(
     alloc: Global,
     values: &mut BTreeMap<String, BTreeMap<String, Ids>>,
     pairs: &[Property],
+    id: u32,
 ) -> Result<(), AllocError>
     ensures ids { (k v : List ℕ) → ids_of (list_at values.new k v) ≡ ids_of (list_at values.old k v) }
-    ensures room { OnOk result ((k v : List ℕ) → list_any (is_pair k v) pairs.now ≡ true → HasRoom (list_at values.new k v)) }
+    ensures ready { OnOk result ((k v : List ℕ) → list_any (is_pair k v) pairs.now ≡ true → IsReady id (list_at values.new k v)) }
 {
     for pair in pairs {
-        make_room(alloc, values, pair.key.as_str(), pair.value.as_str())?;
+        make_room(alloc, values, pair.key.as_str(), pair.value.as_str(), id)?;
     }
     Ok(())
 }
@@ -110,7 +112,7 @@ pub(crate) fn add_all(
     pairs: &[Property],
     id: u32,
 )
-    requires room { (k v : List ℕ) → list_any (is_pair k v) pairs.now ≡ true → HasRoom (list_at values.old k v) }
+    requires ready { (k v : List ℕ) → list_any (is_pair k v) pairs.now ≡ true → IsReady id (list_at values.old k v) }
     ensures ids { (k v : List ℕ) → ids_of (list_at values.new k v) ≡ (if list_any (is_pair k v) pairs.now then with_id id (ids_of (list_at values.old k v)) else ids_of (list_at values.old k v)) }
 {
     for pair in pairs {
@@ -125,7 +127,7 @@ pub(crate) fn remove_all(
     id: u32,
 )
     ensures ids { (k v : List ℕ) → ids_of (list_at values.new k v) ≡ (if list_any (is_pair k v) pairs.now then without_id id (ids_of (list_at values.old k v)) else ids_of (list_at values.old k v)) }
-    ensures room { (k v : List ℕ) → HasRoom (list_at values.old k v) → HasRoom (list_at values.new k v) }
+    ensures ready { (k v : List ℕ) → IsReady id (list_at values.old k v) → IsReady id (list_at values.new k v) }
 {
     for pair in pairs {
         remove(values, pair.key.as_str(), pair.value.as_str(), id);

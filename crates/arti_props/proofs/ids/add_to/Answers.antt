@@ -9,7 +9,7 @@ pub returns-in-Err : goal.returns-in-Err
 returns-in-Err c =
     let xs = c.args.ids.now.items in
     let both = added xs c.insert.new.self.items c.args.id c.in-Err.place (vec_capacity c.args.ids.now) (is_ok c.insert.result) c.requires.ascend
-    (subst (λ (l : List ℕ). IsBinarySearchResult (λ y. nat_cmp y c.args.id) l (Err c.in-Err.place)) c.deref.ensures.value c.in-Err.ensures.position) c.requires.room (λ few. search rules) (search rules) in
+    (subst (λ (l : List ℕ). IsBinarySearchResult (λ y. nat_cmp y c.args.id) l (Err c.in-Err.place)) c.deref.ensures.value c.in-Err.ensures.position) c.requires.ready (λ few. search rules) (search rules) in
     record { ids = both.0; ascend = both.1 }
 
 pub returns-in-Ok-clause-ids : goal.returns-in-Ok-clause-ids

@@ -1,17 +1,17 @@
 use Rattle.std.proofs.Common.{refl}
 use Rattle.arti_props.specs.Ids.{with_id}
 use Rattle.arti_props.specs.Rows.{Md5, Sha1, Sha256}
-use Rattle.arti_props.proofs.Features.{same_digest, ready_of, turn_all, found}
+use Rattle.arti_props.proofs.Features.{same_digest, turn_all}
 use Rattle.arti_props.proofs.indexing.add_digests.Goals as goal
 
 pub add-requires : goal.add-requires
-add-requires c = let digest = c.args.digests.now.md5 in record { ready = ready_of c.args.id (found c.args.index.now.md5s digest) (c.requires.room (Md5 digest) (same_digest digest)) }
+add-requires c = let digest = c.args.digests.now.md5 in record { ready = c.requires.ready (Md5 digest) (same_digest digest) }
 
 pub add-requires-2 : goal.add-requires-2
-add-requires-2 c = let digest = c.args.digests.now.sha1 in record { ready = ready_of c.args.id (found c.args.index.now.sha1s digest) (c.requires.room (Sha1 digest) (same_digest digest)) }
+add-requires-2 c = let digest = c.args.digests.now.sha1 in record { ready = c.requires.ready (Sha1 digest) (same_digest digest) }
 
 pub add-requires-3 : goal.add-requires-3
-add-requires-3 c = let digest = c.args.digests.now.sha256 in record { ready = ready_of c.args.id (found c.args.index.now.sha256s digest) (c.requires.room (Sha256 digest) (same_digest digest)) }
+add-requires-3 c = let digest = c.args.digests.now.sha256 in record { ready = c.requires.ready (Sha256 digest) (same_digest digest) }
 
 pub returns-clause-ids : goal.returns-clause-ids
 returns-clause-ids c = turn_all (with_id c.args.id) c.args.digests.now c.args.index.now (record { values = c.args.index.now.values; md5s = c.add.new.lists; sha1s = c.add-2.new.lists; sha256s = c.add-3.new.lists }) refl c.add.ensures.ids c.add-2.ensures.ids c.add-3.ensures.ids

@@ -1,11 +1,11 @@
 use Rattle.std.proofs.Common.{refl, true}
-use Rattle.arti_props.specs.Lists.{HasRoom}
+use Rattle.arti_props.specs.Lists.{IsReady}
 use Rattle.arti_props.specs.Rows.{Feature, has_digest}
 use Rattle.arti_props.specs.Asked.{list_of}
 use Rattle.arti_props.specs.declared.index.Index.{Index}
 use Rattle.std.proofs.Common.{◌≡◌}
 use Rattle.arti_props.proofs.Updates.{on_ok}
-use Rattle.arti_props.proofs.Features.{stay_all, room_all, found}
+use Rattle.arti_props.proofs.Features.{stay_all, ready_all, found}
 use Rattle.arti_props.proofs.indexing.make_digest_rooms.Goals as goal
 
 pub returns-in_err-make_room-clause-ids : goal.returns-in_err-make_room-clause-ids
@@ -17,9 +17,9 @@ returns-in_err-make_room-2-clause-ids c = stay_all c.args.index.now (record { va
 pub returns-clause-ids : goal.returns-clause-ids
 returns-clause-ids c = stay_all c.args.index.now (record { values = c.args.index.now.values; md5s = c.make_room.new.lists; sha1s = c.make_room-2.new.lists; sha256s = c.make_room-3.new.lists }) refl c.make_room.ensures.ids c.make_room-2.ensures.ids c.make_room-3.ensures.ids
 
-pub returns-clause-room : goal.returns-clause-room
-returns-clause-room c =
+pub returns-clause-ready : goal.returns-clause-ready
+returns-clause-ready c =
     let digests = c.args.digests.now in
     let new : Index = record { values = c.args.index.now.values; md5s = c.make_room.new.lists; sha1s = c.make_room-2.new.lists; sha256s = c.make_room-3.new.lists } in
-    on_ok c.make_room-3.result (HasRoom (found c.make_room-3.new.lists digests.sha256)) ((f : Feature) → has_digest f digests ≡ true → HasRoom (list_of new f))
-    (λ room. room_all digests new c.in_ok-make_room.ensures.room c.in_ok-make_room-2.ensures.room room) c.make_room-3.ensures.room
+    on_ok c.make_room-3.result (IsReady c.args.id (found c.make_room-3.new.lists digests.sha256)) ((f : Feature) → has_digest f digests ≡ true → IsReady c.args.id (list_of new f))
+    (λ room. ready_all c.args.id digests new c.in_ok-make_room.ensures.ready c.in_ok-make_room-2.ensures.ready room) c.make_room-3.ensures.ready

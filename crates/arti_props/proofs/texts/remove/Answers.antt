@@ -2,7 +2,7 @@ use Rattle.std.proofs.Common.{rules, ◌≡◌, Some, ap, sym, subst, ◌∙◌}
 use Rattle.std.specs.BTreeMap.{get_by_text}
 use Rattle.std.proofs.lemmas.Map.Text.{btree_map_updates_text}
 use Rattle.arti_props.specs.Ids.{without_id}
-use Rattle.arti_props.specs.Lists.{ids_of, HasRoom}
+use Rattle.arti_props.specs.Lists.{ids_of, IsReady}
 use Rattle.arti_props.proofs.Updates.{after, kept}
 use Rattle.arti_props.proofs.texts.remove.Goals as goal
 
@@ -13,9 +13,9 @@ returns-in-Some-clause-ids c =
     after (get_by_text c.args.lists.now) (get_by_text (c.get_mut.follows.lender w)) c.args.text.now (Some w) (btree_map_updates_text c.args.text.now c.args.lists.now (c.get_mut.follows.lender w) (Some w) ((c.get_mut.follows.holds w).3 (search rules)))
     ids_of (without_id c.args.id) (c.remove.ensures.ids ∙ ap (λ o. without_id c.args.id (ids_of o)) (sym at))
 
-pub returns-in-Some-clause-room : goal.returns-in-Some-clause-room
-returns-in-Some-clause-room c =
+pub returns-in-Some-clause-ready : goal.returns-in-Some-clause-ready
+returns-in-Some-clause-ready c =
     let w = c.remove.new.self in
     let at : get_by_text c.args.lists.now c.args.text.now ≡ Some c.in-Some.ids.now = search rules in
     kept (get_by_text c.args.lists.now) (get_by_text (c.get_mut.follows.lender w)) c.args.text.now (Some w) (btree_map_updates_text c.args.text.now c.args.lists.now (c.get_mut.follows.lender w) (Some w) ((c.get_mut.follows.holds w).3 (search rules)))
-    HasRoom (λ was. c.remove.ensures.room (subst HasRoom at was))
+    (IsReady c.args.id) (λ was. c.remove.ensures.ready (subst (IsReady c.args.id) at was))

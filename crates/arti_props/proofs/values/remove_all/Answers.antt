@@ -13,5 +13,5 @@ loop-pair-preserved c =
     let value_is = c.as_str-in-loop-pair.ensures ∙ ap (λ (p : Property). p.value) item in
     record {
       ids = λ k v. step c.args.pairs.now c.loop-pair.pair-index c.loop-pair-test.true c.as_str.result.now c.as_str-in-loop-pair.result.now key_is value_is (without_id c.args.id) (without_twice c.args.id) k v (ids_of (list_at c.args.values.now k v)) (ids_of (list_at c.loop-pair.values k v)) (ids_of (list_at c.remove.new.values k v)) (c.loop-pair.invariant.ids k v) (c.remove.ensures.ids k v);
-      room = λ k v was. c.remove.ensures.room k v (c.loop-pair.invariant.room k v was);
+      ready = λ k v was. c.remove.ensures.ready k v (c.loop-pair.invariant.ready k v was);
     }
