@@ -1,28 +1,18 @@
 -- The first character of a text, and the others.
-use Rattle.std.proofs.Common.{◌≡◌, ℕ, Bool, true, false, List, [], ◌∷◌, ◌++◌, length, drop, Some, None, refl, sym, ap, ◌∙◌}
+use Rattle.std.proofs.Common.{◌≡◌, ℕ, true, List, [], ◌∷◌, ◌++◌, length, drop, Some, refl, sym, ap, ◌∙◌}
 use Rattle.std.specs.Prelude.{slice_get, encode_utf8}
 use Rattle.std.specs.Str.{chars, IsUtf8}
 use Rattle.std.proofs.lemmas.Str.{chars-encodes}
 use Rattle.std.proofs.lemmas.List.{drop_at}
-use Rattle.std.proofs.lemmas.Bool.{false≢true}
-use Rattle.std.specs.Prelude.{◌&&◌}
+use Rattle.std.proofs.lemmas.Bool.{and_parts}
+use Rattle.std.proofs.lemmas.Option.{none-some, same_Some}
 use lib.Utf8.{scalars, scalar, encodes, encode}
 
-and_true : (a b : Bool) → (a && b) ≡ true → (a ≡ true) × (b ≡ true)
-and_true true b e = (refl, e)
-and_true false b e = absurd (false≢true e)
-
-no_first : {A : Type 0} (c : A) → Some c ≡ None → ⊥
-no_first c e = cc
-
-same_first : {A : Type 0} (c d : A) → Some c ≡ Some d → c ≡ d
-same_first c d e = cc
-
 first_among : (cs bs rest : List ℕ) (c : ℕ) → scalars cs ≡ true → encodes cs ≡ bs → Some c ≡ slice_get cs 0 → bs ≡ encode c ++ rest → chars bs ≡ c ∷ chars rest
-first_among [] bs rest c ok e some split = absurd (no_first c some)
+first_among [] bs rest c ok e some split = absurd (none-some c (sym some))
 first_among (d ∷ cs) bs rest c ok e some split =
-    let same : c ≡ d = same_first c d some in
-    let ok_rest : scalars cs ≡ true = (and_true (scalar d) (scalars cs) ok).1 in
+    let same : c ≡ d = same_Some c d some in
+    let ok_rest : scalars cs ≡ true = (and_parts (scalar d) (scalars cs) ok).1 in
     let whole : encode d ++ encodes cs ≡ encode d ++ rest = e ∙ split ∙ ap (λ (x : ℕ). encode x ++ rest) same in
     let tail : encodes cs ≡ rest = sym (drop_at (encode d) (encodes cs) (length (encode d)) refl) ∙ ap (λ (l : List ℕ). drop (length (encode d)) l) whole ∙ drop_at (encode d) rest (length (encode d)) refl in
     ap chars (sym e) ∙ chars-encodes (d ∷ cs) ok ∙ ap (λ (x : ℕ). x ∷ cs) (sym same) ∙ ap (λ (l : List ℕ). c ∷ l) (sym (chars-encodes cs ok_rest) ∙ ap chars tail)

@@ -1,4 +1,2 @@
-mod Cuts
-mod Folders
 mod Chars
 mod PropTexts

@@ -1,5 +1,5 @@
 -- What contracts see of an item's key.
-use Rattle.std.specs.Prelude.{◌≡◌, MatchBool, ℕ, ◌==◌, not, if◌then◌else◌, map, List, [], ◌∷◌, ◌++◌, codes, nat_eq}
+use Rattle.std.specs.Prelude.{◌≡◌, MatchBool, ℕ, Bool, ◌==◌, ◌&&◌, if◌then◌else◌, map, List, [], ◌∷◌, ◌++◌, codes, nat_eq}
 use Rattle.std.specs.List.{list_any, before_last, after_last}
 use Rattle.std.specs.Cmp.Lexicographic.{pointwise, slice_cmp}
 use Rattle.std.specs.Ordering.{nat_cmp, ordering_then}
@@ -47,3 +47,7 @@ folders_above k = map (λ front. key_of k.repo front) (fronts (whole_of k))
 -- the default order of items: by repository, then path, then name, each in byte order
 abbrev pub key_cmp : Key → Key → Ordering
 key_cmp a b = ordering_then (slice_cmp nat_cmp a.repo b.repo) (ordering_then (slice_cmp nat_cmp a.path b.path) (slice_cmp nat_cmp a.name b.name))
+
+-- two keys are one: all three parts are the same
+abbrev pub same_key : Key → Key → Bool
+same_key a b = pointwise nat_eq a.repo b.repo && pointwise nat_eq a.path b.path && pointwise nat_eq a.name b.name

@@ -1,5 +1,11 @@
 pub mod Moments
+pub mod MomentLaws
 pub mod Key
+pub mod KeyLaws
 pub mod Names
+pub mod CutLaws
+pub mod FolderLaws
+pub mod Sizes
 pub mod LimitsOf
 pub mod PropTexts
+pub mod DigestsOf

@@ -1,5 +1,6 @@
 -- Which numbers are limits.
 use Rattle.std.specs.Prelude.{ℕ, ◌<◌, ◌≤◌}
+use Rattle.arti_rows.specs.Sizes.{most_content}
 
 -- above 0, and at most so many
 abbrev pub IsWithin : ℕ → ℕ → Type 0
@@ -10,7 +11,7 @@ pub record AreLimits (repositories items builds content document journal blobs r
   pub repositories_fit : IsWithin 1024 repositories
   pub items_fit : IsWithin 262144 items
   pub builds_fit : IsWithin 65536 builds
-  pub content_fits : IsWithin 67108864 content
+  pub content_fits : IsWithin most_content content
   pub document_fits : IsWithin 8388608 document
   pub journal_fits : IsWithin 1073741824 journal
   pub blobs_fit : IsWithin 1099511627776 blobs

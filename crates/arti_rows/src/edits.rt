@@ -5,7 +5,7 @@ use crate::{
 };
 
 /// A build as it was put.
-#[derive(Clone, Debug, PartialEq, Eq, Drop)]
+#[derive(Debug, Drop)]
 pub struct BuildInfo {
     pub name: Text,
     pub number: Text,
@@ -17,7 +17,7 @@ pub struct BuildInfo {
 }
 
 /// One step of a change.
-#[derive(Clone, Debug, PartialEq, Eq, Drop)]
+#[derive(Debug, Drop)]
 pub enum Edit {
     Define {
         def: RepoDef,
@@ -79,7 +79,7 @@ pub enum Edit {
 }
 
 /// What one accepted request changes, as a whole or not at all.
-#[derive(Clone, Debug, PartialEq, Eq, Drop)]
+#[derive(Debug, Drop)]
 pub struct Change {
     pub moment: Moment,
     pub user: Text,

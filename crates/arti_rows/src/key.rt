@@ -89,8 +89,8 @@ impl ItemKey {
     }
 }
 
-// Whether a text is a repository's key.
-fn is_repo_key(key: &str) -> bool
+/// Whether a text is a repository's key.
+pub fn is_repo_key(key: &str) -> bool
     ensures { result ≡ is_repo_key key.now }
 {
     if key.is_empty() || key.len() > 64 {

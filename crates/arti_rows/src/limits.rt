@@ -1,9 +1,22 @@
 // The limits of a repository.
 ghost use Rattle.std.specs.Prelude.{◌≡◌, ◌<◌, ◌≤◌, ◌↔◌, IsSome, IfSome};
 ghost use Rattle.arti_rows.specs.LimitsOf.{AreLimits};
+ghost use Rattle.arti_rows.specs.Sizes.{most_content};
+
+/// The bytes of the greatest content.
+pub const MOST_CONTENT: u64 = 67_108_864;
+
+/// The bytes of the greatest body of a reply.
+pub const MOST_REPLY: usize = 67_108_864;
+
+/// The file of a ground that has the journal.
+pub const JOURNAL_FILE: u32 = 1;
+
+/// The file of a ground that has the contents.
+pub const CONTENTS_FILE: u32 = 3;
 
 /// How much a repository may hold and how long a request may be.
-#[derive(Clone, Copy, Debug, PartialEq, Eq)]
+#[derive(Clone, Copy, Debug, PartialEq)]
 pub struct Limits {
     /// Definitions of repositories, caches not counted.
     pub repositories: u32,
@@ -29,7 +42,7 @@ impl Limits {
         ensures repositories { result.repositories ≡ 1024 }
         ensures items { result.items ≡ 262144 }
         ensures builds { result.builds ≡ 65536 }
-        ensures content { result.content ≡ 67108864 }
+        ensures content { result.content ≡ most_content }
         ensures document { result.document ≡ 8388608 }
         ensures journal { result.journal ≡ 1073741824 }
         ensures blobs { result.blobs ≡ 1099511627776 }
@@ -39,7 +52,7 @@ impl Limits {
             repositories: 1_024,
             items: 262_144,
             builds: 65_536,
-            content: 67_108_864,
+            content: MOST_CONTENT,
             document: 8_388_608,
             journal: 1_073_741_824,
             blobs: 1_099_511_627_776,

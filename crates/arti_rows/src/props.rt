@@ -173,8 +173,8 @@ fn listed<K: Ord + Drop>(alloc: Global, set: BTreeSet<K>) -> Result<Vec<K>, Allo
     Ok(keys)
 }
 
-// Whether a text is a property's key.
-fn is_prop_key(key: &str) -> bool
+/// Whether a text is a property's key.
+pub fn is_prop_key(key: &str) -> bool
     ensures { result ≡ is_prop_key key.now }
 {
     if key.is_empty() || key.len() > 255 {
@@ -210,8 +210,8 @@ fn is_control_byte(b: u8) -> bool
     b < 32 || b == 127
 }
 
-// Whether a text is a property's value.
-fn is_prop_value(value: &str) -> bool
+/// Whether a text is a property's value.
+pub fn is_prop_value(value: &str) -> bool
     ensures { result ≡ is_prop_value value.now }
 {
     if value.len() > 2048 {
@@ -220,7 +220,8 @@ fn is_prop_value(value: &str) -> bool
     !has_control(value.as_bytes())
 }
 
-fn has_control(bytes: &[u8]) -> bool
+/// Whether a control character is among the bytes.
+pub fn has_control(bytes: &[u8]) -> bool
     ensures { result ≡ list_any is_control_byte bytes.now }
 {
     bytes.iter().any(|b| is_control_byte(*b))

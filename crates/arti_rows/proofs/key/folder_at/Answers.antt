@@ -1,8 +1,8 @@
-use Rattle.std.proofs.Common.{◌≡◌, ℕ, List, take, drop, sym, ap, ◌∙◌, subst, rules}
+use Rattle.std.proofs.Common.{◌≡◌, ℕ, List, take, subst, rules}
 use Rattle.arti_rows.specs.Key.{Key, key_of, path_of, name_of, Rejoins}
 use Rattle.arti_rows.specs.Names.{IsKey}
-use Rattle.arti_rows.proofs.Cuts.{is_key}
-use Rattle.arti_rows.proofs.Folders.{folder_good}
+use Rattle.arti_rows.specs.CutLaws.{is_key}
+use Rattle.arti_rows.specs.FolderLaws.{folder_good}
 use Rattle.arti_rows.proofs.key.folder_at.Goals as goal
 
 pub invariant_of-result : goal.invariant_of-result

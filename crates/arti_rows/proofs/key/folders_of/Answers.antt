@@ -1,8 +1,7 @@
-use Rattle.std.proofs.Common.{◌≡◌, ◌≢◌, ◌<◌, ◌+◌, ℕ, List, [], ◌∷◌, ◌++◌, length, take, get_or, refl, sym, ap, ◌∙◌, arith, rules}
-use Rattle.std.proofs.lemmas.Grind.{common_steps}
+use Rattle.std.proofs.Common.{◌≡◌, ◌≢◌, ◌<◌, List, [], ◌∷◌, ◌++◌, length, take, get_or, refl, sym, ap, ◌∙◌, rules}
 use Rattle.std.proofs.lemmas.Bool.{ne_eqb}
 use Rattle.arti_rows.specs.Key.{Key, key_of}
-use Rattle.arti_rows.proofs.Folders.{slash, with_folder, without_folder}
+use Rattle.arti_rows.specs.FolderLaws.{slash, with_folder, without_folder}
 use Rattle.arti_rows.proofs.key.folders_of.Goals as goal
 use Rattle.arti_rows.proofs.key.folders_of.Goals.{then-b-eq47+in_ok-folder_at+in_ok-push, else-b-eq47}
 

@@ -1,9 +1,8 @@
-use Rattle.std.proofs.Common.{◌≡◌, ◌+◌, ◌<◌, ◌≤◌, ℕ, List, [], ◌∷◌, length, lit<, arith, rules, sym, ap, ◌∙◌}
+use Rattle.std.proofs.Common.{◌≡◌, ◌+◌, [], length, lit<, arith, rules, sym, ap, ◌∙◌}
 use Rattle.std.specs.Prelude.{nat_lt, if◌then◌else◌, ◌||◌, Some, None}
-use Rattle.std.specs.List.{before_first, after_first, position_or_len}
-use Rattle.arti_rows.specs.Names.{first_fault, segments_of, length_fault}
+use Rattle.arti_rows.specs.Names.{segments_of}
 use Rattle.arti_rows.specs.declared.fault.KeyFault.TheVariants.{TooLong}
-use Rattle.arti_rows.proofs.Cuts.{first_cut, after_shorter, one_segment, fault_at, no_fault_at, by_length}
+use Rattle.arti_rows.specs.CutLaws.{first_cut, after_shorter, one_segment, fault_at, no_fault_at, by_length}
 use Rattle.arti_rows.proofs.key.path_fault.Goals as goal
 
 pub returns-in-Some-segment_fault : goal.returns-in-Some-segment_fault

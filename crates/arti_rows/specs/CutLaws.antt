@@ -1,9 +1,9 @@
 -- A path and name joined is cut at its last slash, and joined again.
-use Rattle.std.proofs.Common.{length-drop, ◌≡◌, ◌≢◌, ℕ, ◌+◌, ◌-◌, ◌<◌, ◌≤◌, Bool, true, false, cond, eqb, List, [], ◌∷◌, ◌++◌, length, get_or, take, drop, Option, Some, None, refl, sym, ap, ◌∙◌, subst, arith}
-use Rattle.std.specs.Prelude.{codes, nat_eq, not, MatchBool, ◌==◌, All, MatchOption}
+use Rattle.std.proofs.Common.{length-drop, ◌≡◌, ◌≢◌, ℕ, ◌+◌, ◌-◌, ◌<◌, ◌≤◌, Bool, true, false, cond, List, [], ◌∷◌, ◌++◌, length, get_or, take, drop, Some, None, refl, sym, ap, ◌∙◌, subst, arith}
+use Rattle.std.specs.Prelude.{nat_eq, not, MatchBool, ◌==◌}
 use Rattle.std.specs.Str.{NoCharPasses}
 use Rattle.std.specs.Str.Pattern.{HasCharAt}
-use Rattle.std.specs.List.{list_any, suffix_len, before_last, after_last}
+use Rattle.std.specs.List.{list_any, suffix_len, before_last}
 use Rattle.std.specs.Cmp.Lexicographic.{pointwise, bytes_decides}
 use Rattle.std.proofs.lemmas.List.Sums.{suffix_len_is}
 use Rattle.std.proofs.lemmas.List.Folds.{list_any_at, list_any_none}
@@ -12,9 +12,8 @@ use Rattle.std.specs.List.{before_first, after_first, position_or_len}
 use Rattle.std.specs.Option.{option_or}
 use Rattle.std.proofs.lemmas.List.{take-append-drop, get_or-drop, get_or_default}
 use Rattle.std.proofs.lemmas.Str.Pattern.{NoCharPasses-char, drop_at_char}
-use Rattle.std.proofs.lemmas.Bool.{false≢true, ne_eqb}
-use Rattle.std.proofs.lemmas.Bool.Decides.{nat_tests}
-use Rattle.arti_rows.specs.Key.{Key, root_path, whole_of, name_of, path_of, key_of, Rejoins}
+use Rattle.std.proofs.lemmas.Bool.{ne_eqb}
+use Rattle.arti_rows.specs.Key.{root_path, whole_of, name_of, path_of, key_of, Rejoins}
 use Rattle.arti_rows.specs.Names.{is_repo_key, segments_of, segment_fault, first_fault, length_fault, path_fault, key_fault, IsKey}
 use Rattle.arti_rows.specs.declared.fault.KeyFault.{KeyFault}
 use Rattle.arti_rows.specs.declared.fault.KeyFault.TheVariants.{BadName}
