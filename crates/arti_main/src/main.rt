@@ -3,21 +3,15 @@
 
 ghost use Rattle.std.specs.Prelude.{◌≡◌, ◌<◌};
 
-mod real_clock;
-mod real_file;
-mod real_ground;
-mod real_source;
 mod start_clock;
 #[cfg(test)]
 mod tests;
 mod top;
 mod words;
 
-use crate::real_clock::RealClock;
-use crate::real_ground::RealGround;
-use crate::real_source::RealSource;
 use crate::top::{Status, run};
 use arti_ground::{ListUpstream, Steps};
+use arti_host::{RealClock, RealGround, RealSource};
 use arti_rows::Limits;
 use std::alloc::AllocError;
 use std::env;

@@ -1,10 +1,9 @@
 // The top call against bytes that come from outside.
 ghost use Rattle.std.specs.Prelude.{◌≡◌, ◌<◌};
 
-use crate::real_ground::RealGround;
 use crate::top::{Status, run};
 use arti_ground::{
-    Failed, FaultyGround, Ground, ListClock, ListUpstream, MemoryGround, MemorySource, Steps,
+    FaultyGround, Ground, ListClock, ListUpstream, MemoryGround, MemorySource, Steps,
 };
 use arti_rows::Limits;
 use std::alloc::{AllocError, Global};
@@ -181,27 +180,6 @@ fn words_that_are_no_command(rt: HostRuntime) -> Result<(), Fail> {
         Blank::new(1),
     )?;
     assert!(&rt; status == Status::Ok);
-    Ok(())
-}
-
-#[test]
-fn files_of_a_folder(rt: HostRuntime) -> Result<(), Fail> {
-    let alloc = rt.alloc();
-    let mut outside = RealGround::new(&rt, alloc, ".", rt.stdout())?;
-    let mut buf = [0u8; 8];
-    assert!(&rt; outside.length(5) == Ok(0));
-    assert!(&rt; outside.read(5, 0, &mut buf) == Ok(0));
-    assert!(&rt; outside.write_at(5, 0, b"abcdef") == Ok(()));
-    assert!(&rt; outside.write_at(5, 2, b"XY") == Ok(()));
-    assert!(&rt; outside.cut(5, 5) == Ok(()));
-    assert!(&rt; outside.sync() == Ok(()));
-    let mut again = RealGround::new(&rt, alloc, ".", rt.stdout())?;
-    assert!(&rt; again.length(5) == Ok(5));
-    assert!(&rt; again.read(5, 1, &mut buf) == Ok(4));
-    assert!(&rt; &buf[..4] == b"bXYe".as_slice());
-    assert!(&rt; again.read(5, 5, &mut buf) == Ok(0));
-    let mut nowhere = RealGround::new(&rt, alloc, "no/folder", rt.stdout())?;
-    assert!(&rt; nowhere.write_at(1, 0, b"a") == Err(Failed));
     Ok(())
 }
 

@@ -1,6 +1,7 @@
 // One file of a folder. It is opened at its first use, and made at its first write.
 ghost use Rattle.std.specs.Prelude.{◌≤◌, ◌<◌, ◌^◌, length, IfOk};
 
+use crate::handle::behind_streams;
 use arti_ground::Failed;
 use std::alloc::{AllocError, Global};
 use std::fs::{File, OpenFile, OpenOptions};
@@ -56,7 +57,7 @@ impl RealFile {
             .open(rt, self.path.as_str())
         {
             Ok(file) => {
-                self.file = Some(file);
+                self.file = Some(behind_streams(file).map_err(|_| Failed)?);
                 Ok(true)
             }
             Err(error) if error.kind() == ErrorKind::NotFound => Ok(false),
@@ -76,8 +77,8 @@ impl RealFile {
             .open(rt, self.path.as_str())
         {
             Ok(file) => {
-                self.file = Some(file);
                 self.made = true;
+                self.file = Some(behind_streams(file).map_err(|_| Failed)?);
                 Ok(())
             }
             Err(_) => Err(Failed),
@@ -144,6 +145,14 @@ impl RealFile {
     /// Its name has reached the device.
     pub fn name_is_synced(&mut self) {
         self.made = false;
+    }
+
+    /// All that the file has reaches the device, whoever wrote it, where it is there.
+    pub fn sync_whole(&mut self, rt: &HostRuntime) -> Result<(), Failed> {
+        if self.open(rt)? {
+            self.written = true;
+        }
+        self.sync()
     }
 
     /// What was written since the last such call reaches the device.

@@ -1,64 +1,23 @@
 // The files of a folder and an output stream as a ground. It tells nothing of what they hold.
 ghost use Rattle.std.specs.Prelude.{◌≤◌, ◌<◌, ◌^◌, length, IfOk};
 
-use crate::real_file::RealFile;
+use crate::real_folder::RealFolder;
 use arti_ground::{Failed, Ground};
 use std::alloc::{AllocError, Global};
-use std::fs;
-use std::fs::OpenFile;
 use std::io::Write;
 
 /// The files 0 to 5 of a folder, and one stream for all lines. Its counts of faults stop at their greatest value.
 #[derive(Drop)]
 pub struct RealGround<W: Write + Drop> {
-    rt: HostRuntime,
-    folder: String,
-    files: [RealFile; 6],
+    folder: RealFolder,
     out: W,
     disk_faults: u64,
     tell_faults: u64,
 }
 
-// What was written to the files reaches the device.
-fn sync_files(files: &mut [RealFile; 6]) -> Result<(), Failed> {
-    for file in files.iter_mut() {
-        file.sync()?;
-    }
-    Ok(())
-}
-
-// The names of the files in a folder reach the device.
-fn sync_folder(rt: &HostRuntime, folder: &str) -> Result<(), Failed> {
-    match fs::open(rt, folder) {
-        Ok(folder) => folder.sync_all().map_err(|_| Failed),
-        Err(_) => Err(Failed),
-    }
-}
-
-// Whether a file was made since the folder last reached the device.
-fn some_made(files: &[RealFile; 6]) -> bool {
-    for file in files.iter() {
-        if file.is_made() {
-            return true;
-        }
-    }
-    false
-}
-
-// All that was written reaches the device, and the folder where a file was made.
-fn sync_all(rt: &HostRuntime, folder: &str, files: &mut [RealFile; 6]) -> Result<(), Failed> {
-    sync_files(files)?;
-    if some_made(files) {
-        sync_folder(rt, folder)?;
-        for file in files.iter_mut() {
-            file.name_is_synced();
-        }
-    }
-    Ok(())
-}
-
 impl<W: Write + Drop> RealGround<W> {
-    /// The ground of a folder. Nothing is opened yet.
+    /// The ground of a folder, which is there already. From its first call on a file on it has the folder to itself, and
+    /// the call is a fault of the disk where another program has. Nothing is opened yet.
     pub fn new(
         rt: &HostRuntime,
         alloc: Global,
@@ -66,16 +25,7 @@ impl<W: Write + Drop> RealGround<W> {
         out: W,
     ) -> Result<RealGround<W>, AllocError> {
         Ok(RealGround {
-            rt: rt.clone()?,
-            folder: String::from_str(alloc, folder)?,
-            files: [
-                RealFile::new(alloc, folder, 0)?,
-                RealFile::new(alloc, folder, 1)?,
-                RealFile::new(alloc, folder, 2)?,
-                RealFile::new(alloc, folder, 3)?,
-                RealFile::new(alloc, folder, 4)?,
-                RealFile::new(alloc, folder, 5)?,
-            ],
+            folder: RealFolder::new(rt, alloc, folder)?,
             out,
             disk_faults: 0,
             tell_faults: 0,
@@ -99,7 +49,7 @@ impl<W: Write + Drop> Ground for RealGround<W> {
     ghost sound = { λ _ never. absurd never };
 
     fn read(&mut self, file: u32, at: u64, buf: &mut [u8]) -> Result<usize, Failed> {
-        let outcome = self.files[file as usize].read(&self.rt, at, buf);
+        let outcome = self.folder.read(file, at, buf);
         if outcome.is_err() {
             self.disk_faults = self.disk_faults.saturating_add(1);
         }
@@ -107,7 +57,7 @@ impl<W: Write + Drop> Ground for RealGround<W> {
     }
 
     fn length(&mut self, file: u32) -> Result<u64, Failed> {
-        let outcome = self.files[file as usize].length(&self.rt);
+        let outcome = self.folder.length(file);
         if outcome.is_err() {
             self.disk_faults = self.disk_faults.saturating_add(1);
         }
@@ -115,7 +65,7 @@ impl<W: Write + Drop> Ground for RealGround<W> {
     }
 
     fn write_at(&mut self, file: u32, at: u64, bytes: &[u8]) -> Result<(), Failed> {
-        let outcome = self.files[file as usize].write_at(&self.rt, at, bytes);
+        let outcome = self.folder.write_at(file, at, bytes);
         if outcome.is_err() {
             self.disk_faults = self.disk_faults.saturating_add(1);
         }
@@ -123,7 +73,7 @@ impl<W: Write + Drop> Ground for RealGround<W> {
     }
 
     fn cut(&mut self, file: u32, len: u64) -> Result<(), Failed> {
-        let outcome = self.files[file as usize].cut(&self.rt, len);
+        let outcome = self.folder.cut(file, len);
         if outcome.is_err() {
             self.disk_faults = self.disk_faults.saturating_add(1);
         }
@@ -131,7 +81,7 @@ impl<W: Write + Drop> Ground for RealGround<W> {
     }
 
     fn sync(&mut self) -> Result<(), Failed> {
-        let outcome = sync_all(&self.rt, self.folder.as_str(), &mut self.files);
+        let outcome = self.folder.sync();
         if outcome.is_err() {
             self.disk_faults = self.disk_faults.saturating_add(1);
         }

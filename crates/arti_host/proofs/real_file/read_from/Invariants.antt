@@ -1,5 +1,5 @@
 use Rattle.std.proofs.Common.{◌≤◌, length}
-use Rattle.arti_main.proofs.real_file.read_from.Given as goal
+use Rattle.arti_host.proofs.real_file.read_from.Given as goal
 
 abbrev pub invariant-reads : goal.invariant-reads
 invariant-reads l = l.done ≤ length l.buf
