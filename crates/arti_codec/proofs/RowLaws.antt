@@ -12,15 +12,16 @@ use Rattle.std.proofs.lemmas.Str.{IsUtf8-from_is_utf8, is_utf8-from_IsUtf8}
 use Rattle.arti_rows.specs.Key.{Key, whole_of, path_of, name_of}
 use Rattle.arti_rows.specs.Names.{IsKey, key_fault}
 use Rattle.arti_rows.specs.Moments.{IsMoment}
+use Rattle.arti_rows.specs.PropTexts.{property_cmp}
 use Rattle.arti_rows.specs.declared.fault.KeyFault.{KeyFault}
 use Rattle.arti_rows.specs.declared.rows.Given.{Given}
 use Rattle.arti_rows.specs.declared.rows.Class.{Class}
 use Rattle.arti_rows.specs.declared.rows.Class.TheVariants.{Local, Remote, Virtual}
 use Rattle.arti_codec.specs.Format.{Format, ◌⨟◌, of_parts, where_holds, number, bit, flag, run, IsThere, optional}
 use Rattle.arti_codec.specs.Reading.{◌▷◌, made, run_at, flag_at, number_at, optional_at}
-use Rattle.arti_codec.specs.Rules.{is_build_name, is_property, property_cmp, ascends, are_prop_keys, is_definition}
-use Rattle.arti_codec.specs.ChangeBytes.{text, moment, item_key, property, properties, digests, file_ref, given, which, some_digests, flagged, stat, item_row, promotion, artifact, dependency, module_row, build_name, build_parts, build_info, info_of, build_row, class_number, class_byte, text_or_none, definition, prop_keys, file_fields, set_fields, drop_fields, promote_fields}
-use Rattle.arti_codec.specs.ReadingRows.{text_at, is_moment, moment_at, is_key, item_key_at, property_at, properties_at, digests_at, file_ref_at, given_of, given_at, some_digests_at, flagged_at, stat_at, item_row_at, promotion_at, artifact_at, dependency_at, module_row_at, build_name_at, build_parts_at, build_info_at, build_row_at, class_of, class_at, none_if_empty, text_or_none_at, definition_parts_at, definition_at, prop_keys_at, file_fields_at, set_fields_at, drop_fields_at, promote_fields_at}
+use Rattle.arti_codec.specs.Rules.{is_build_name, is_property, ascends, are_prop_keys, is_definition}
+use Rattle.arti_codec.specs.ChangeBytes.{text, moment, item_key, property, properties, digests, file_ref, given, which, some_digests, flagged, stat, stamps, stamps_of, held, held_of, item_row, promotion, artifact, dependency, module_row, build_name, build_parts, build_info, info_of, build_row, class_number, class_byte, text_or_none, definition, prop_keys, file_fields, set_fields, drop_fields, promote_fields}
+use Rattle.arti_codec.specs.ReadingRows.{text_at, is_moment, moment_at, is_key, item_key_at, property_at, properties_at, digests_at, file_ref_at, given_of, given_at, some_digests_at, flagged_at, stat_at, stamps_at, held_at, item_row_of, item_row_at, promotion_at, artifact_at, dependency_at, module_row_at, build_name_at, build_parts_at, build_info_at, build_row_at, class_of, class_at, none_if_empty, text_or_none_at, definition_parts_at, definition_at, prop_keys_at, file_fields_at, set_fields_at, drop_fields_at, promote_fields_at}
 use Rattle.arti_codec.proofs.FieldLaws.{Took, IsRead, pair_law, parts_law, where_law, behind_law, run_law, wide_16, wide_32, wide_64, number_law, code_law, optional_law, listed_law, limited_law, most_law}
 
 pub text_law : IsRead text text_at
@@ -188,12 +189,17 @@ pub stat_law : IsRead stat stat_at
 unfolding stat stat_at
 stat_law = parts_law (λ s. (s.downloads, (s.downloaded, s.downloaded_by))) (λ t. record { downloads = t.0; downloaded = t.1.0; downloaded_by = t.1.1 }) (λ a. refl) (λ b. refl) (pair_law (number_law w64 wide_64) (pair_law moment_law text_law))
 
+pub stamps_law : IsRead stamps stamps_at
+unfolding stamps stamps_at
+stamps_law = pair_law moment_law (pair_law text_law (pair_law moment_law (pair_law text_law moment_law)))
+
+pub held_law : IsRead held held_at
+unfolding held held_at
+held_law = pair_law given_law (pair_law (flagged_law file_ref_law) (pair_law (properties_law 1024) (flagged_law stat_law)))
+
 pub item_row_law : IsRead item_row item_row_at
 unfolding item_row item_row_at
-item_row_law = parts_law (λ r. (r.key, (r.created, (r.created_by, (r.modified, (r.modified_by, (r.updated, (r.given, (r.file, (r.props, r.stat))))))))))
-    (λ t. record { key = t.0; created = t.1.0; created_by = t.1.1.0; modified = t.1.1.1.0; modified_by = t.1.1.1.1.0; updated = t.1.1.1.1.1.0; given = t.1.1.1.1.1.1.0; file = t.1.1.1.1.1.1.1.0; props = t.1.1.1.1.1.1.1.1.0; stat = t.1.1.1.1.1.1.1.1.1 })
-    (λ a. refl) (λ b. refl)
-    (pair_law item_key_law (pair_law moment_law (pair_law text_law (pair_law moment_law (pair_law text_law (pair_law moment_law (pair_law given_law (pair_law (flagged_law file_ref_law) (pair_law (properties_law 1024) (flagged_law stat_law))))))))))
+item_row_law = parts_law (λ r. (r.key, (stamps_of r, held_of r))) item_row_of (λ a. refl) (λ b. refl) (pair_law item_key_law (pair_law stamps_law held_law))
 
 pub promotion_law : IsRead promotion promotion_at
 unfolding promotion promotion_at

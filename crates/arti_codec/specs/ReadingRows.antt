@@ -5,6 +5,7 @@ use Rattle.std.specs.Str.{is_utf8}
 use Rattle.std.specs.Cmp.Lexicographic.{pointwise}
 use Rattle.arti_rows.specs.Key.{Key, whole_of, path_of, name_of}
 use Rattle.arti_rows.specs.Names.{key_fault}
+use Rattle.arti_rows.specs.PropTexts.{property_cmp}
 use Rattle.arti_rows.specs.declared.rows.Digests.{Digests}
 use Rattle.arti_rows.specs.declared.rows.SomeDigests.{SomeDigests}
 use Rattle.arti_rows.specs.declared.rows.FileRef.{FileRef}
@@ -24,7 +25,7 @@ use Rattle.arti_rows.specs.declared.edits.BuildInfo.{BuildInfo}
 use Rattle.arti_rows.specs.declared.edits.Edit.{Edit}
 use Rattle.arti_rows.specs.declared.edits.Edit.TheVariants as edits
 use Rattle.arti_rows.specs.declared.edits.Change.{Change}
-use Rattle.arti_codec.specs.Rules.{is_build_name, is_property, property_cmp, ascends, are_prop_keys, is_definition}
+use Rattle.arti_codec.specs.Rules.{is_build_name, is_property, ascends, are_prop_keys, is_definition}
 use Rattle.arti_codec.specs.Reading.{◌>>=◌, ◌▷◌, made, tested, told_by, run_at, byte_at, flag_at, number_at, listed_at, limited_at, optional_at}
 
 unfoldable pub text_at : List ℕ → Option (List ℕ × List ℕ)
@@ -72,10 +73,18 @@ flagged_at read = told_by flag_at (λ there. optional_at there read)
 unfoldable pub stat_at : List ℕ → Option (Stat × List ℕ)
 stat_at = made (λ t. record { downloads = t.0; downloaded = t.1.0; downloaded_by = t.1.1 }) (number_at w64 ▷ moment_at ▷ text_at)
 
+unfoldable pub stamps_at : List ℕ → Option ((ℤ × (List ℕ × (ℤ × (List ℕ × ℤ)))) × List ℕ)
+stamps_at = moment_at ▷ text_at ▷ moment_at ▷ text_at ▷ moment_at
+
+unfoldable pub held_at : List ℕ → Option ((Given × (Option FileRef × (List Property × Option Stat))) × List ℕ)
+held_at = given_at ▷ flagged_at file_ref_at ▷ properties_at 1024 ▷ flagged_at stat_at
+
+-- the row of its key, its stamps and what it holds
+abbrev pub item_row_of : Key × ((ℤ × (List ℕ × (ℤ × (List ℕ × ℤ)))) × (Given × (Option FileRef × (List Property × Option Stat)))) → ItemRow
+item_row_of t = record { key = t.0; created = t.1.0.0; created_by = t.1.0.1.0; modified = t.1.0.1.1.0; modified_by = t.1.0.1.1.1.0; updated = t.1.0.1.1.1.1; given = t.1.1.0; file = t.1.1.1.0; props = t.1.1.1.1.0; stat = t.1.1.1.1.1 }
+
 unfoldable pub item_row_at : List ℕ → Option (ItemRow × List ℕ)
-item_row_at =
-    made (λ t. record { key = t.0; created = t.1.0; created_by = t.1.1.0; modified = t.1.1.1.0; modified_by = t.1.1.1.1.0; updated = t.1.1.1.1.1.0; given = t.1.1.1.1.1.1.0; file = t.1.1.1.1.1.1.1.0; props = t.1.1.1.1.1.1.1.1.0; stat = t.1.1.1.1.1.1.1.1.1 })
-    (item_key_at ▷ moment_at ▷ text_at ▷ moment_at ▷ text_at ▷ moment_at ▷ given_at ▷ flagged_at file_ref_at ▷ properties_at 1024 ▷ flagged_at stat_at)
+item_row_at = made item_row_of (item_key_at ▷ stamps_at ▷ held_at)
 
 unfoldable pub promotion_at : List ℕ → Option (PromotionRow × List ℕ)
 promotion_at =
@@ -145,7 +154,7 @@ unfoldable pub promote_fields_at : List ℕ → Option ((List ℕ × (List ℕ �
 promote_fields_at = build_name_at ▷ build_name_at ▷ promotion_at
 
 -- the fields of the edit with that number
-abbrev pub fields_at : ℕ → List ℕ → Option (Edit × List ℕ)
+unfoldable pub fields_at : ℕ → List ℕ → Option (Edit × List ℕ)
 fields_at tag bytes =
     if tag == 1 then made (λ def. edits.Define def) definition_at bytes else (
     if tag == 2 then made (λ key. edits.Folder key) item_key_at bytes else (

@@ -2,7 +2,8 @@
 ghost use Rattle.std.specs.Prelude.{◌≡◌, ◌==◌};
 ghost use Rattle.std.specs.List.{list_any, list_all};
 ghost use Rattle.std.specs.Int.{w16};
-ghost use Rattle.arti_codec.specs.Rules.{key_marks, is_barred_in_key, is_prop_key, is_prop_value, is_property, property_cmp, text_cmp, comes_first, ascends, are_prop_keys};
+ghost use Rattle.arti_codec.specs.Rules.{is_property, text_cmp, comes_first, ascends, are_prop_keys};
+ghost use Rattle.arti_rows.specs.PropTexts.{barred_in_keys, is_barred_in_key, is_prop_key, is_prop_value, property_cmp};
 ghost use Rattle.arti_codec.specs.ChangeBytes.{property};
 ghost use Rattle.arti_codec.specs.Reading.{Gives};
 ghost use Rattle.arti_codec.specs.ReadingRows.{property_at, properties_at, prop_keys_at};
@@ -64,7 +65,7 @@ fn is_barred(b: u8) -> bool
 }
 
 fn is_mark(b: u8) -> bool
-    ensures { result ≡ list_any (λ c. c == b) key_marks }
+    ensures { result ≡ list_any (λ c. c == b) barred_in_keys }
 {
     match b {
         b' ' | b'=' | b';' | b',' | b'|' | b'*' | b'?' | b'{' | b'}' | b'"' => true,

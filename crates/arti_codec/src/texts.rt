@@ -4,7 +4,8 @@ ghost use Rattle.std.specs.List.{list_any};
 ghost use Rattle.std.specs.Cmp.Lexicographic.{pointwise};
 ghost use Rattle.arti_rows.specs.Key.{whole_of};
 ghost use Rattle.arti_codec.specs.declared.fault.DecodeFault.TheVariants.{NotAChange};
-ghost use Rattle.arti_codec.specs.Rules.{is_control, is_build_name};
+ghost use Rattle.arti_rows.specs.PropTexts.{is_control_byte};
+ghost use Rattle.arti_codec.specs.Rules.{is_build_name};
 ghost use Rattle.arti_codec.specs.ChangeBytes.{text, moment, item_key, build_name};
 ghost use Rattle.arti_codec.specs.Reading.{Gives, Passes};
 ghost use Rattle.arti_codec.specs.ReadingRows.{text_at, moment_at, is_key, item_key_at, build_name_at};
@@ -137,13 +138,13 @@ fn is_build_name(name: &str) -> bool
 }
 
 pub fn has_control(bytes: &[u8]) -> bool
-    ensures { result ≡ list_any is_control bytes.now }
+    ensures { result ≡ list_any is_control_byte bytes.now }
 {
     bytes.iter().any(|b| is_control(*b))
 }
 
 pub fn is_control(b: u8) -> bool
-    ensures { result ≡ is_control b }
+    ensures { result ≡ is_control_byte b }
 {
     b < 32 || b == 127
 }
