@@ -5,6 +5,7 @@ use Rattle.arti_rows.specs.Key.{Key}
 use Rattle.arti_rows.specs.Names.{IsKey}
 use Rattle.arti_rows.specs.Moments.{IsMoment}
 use Rattle.arti_rows.specs.PropTexts.{property_cmp}
+use Rattle.arti_rows.specs.Sizes.{most_content}
 use Rattle.arti_rows.specs.declared.rows.Digests.{Digests}
 use Rattle.arti_rows.specs.declared.rows.SomeDigests.{SomeDigests}
 use Rattle.arti_rows.specs.declared.rows.FileRef.{FileRef}
@@ -52,7 +53,7 @@ digests = of_parts (λ d. (d.md5, (d.sha1, d.sha256))) (run 16 ⨟ run 20 ⨟ ru
 
 -- a place in the contents file, a length, and the digests
 unfoldable pub file_ref : Format FileRef
-file_ref = of_parts (λ f. (f.place, (f.len, f.digests))) (number w64 ⨟ where_holds (λ n. n ≤ 67108864) (number w64) ⨟ digests)
+file_ref = of_parts (λ f. (f.place, (f.len, f.digests))) (number w64 ⨟ where_holds (λ n. n ≤ most_content) (number w64) ⨟ digests)
 
 -- bits 0, 1 and 2 of a byte
 unfoldable pub given : Format Given

@@ -1,11 +1,13 @@
 -- Reading the rows and edits of a change from the front.
-use Rattle.std.specs.Prelude.{ℕ, ◌-◌, ◌/◌, ◌%◌, List, [], ◌∷◌, length, Bool, Option, Some, None, ℤ, pos, negsuc, ◌&&◌, is_none, nat_eq, nat_lt, nat_le, ◌==◌, if◌then◌else◌}
+use Rattle.std.specs.Prelude.{ℕ, ◌-◌, ◌/◌, ◌%◌, List, [], ◌∷◌, length, Bool, Option, Some, None, ℤ, ◌&&◌, is_none, nat_eq, nat_lt, nat_le, ◌==◌, if◌then◌else◌}
 use Rattle.std.specs.Int.{w16, w32, w64, cast_signed}
 use Rattle.std.specs.Str.{is_utf8}
 use Rattle.std.specs.Cmp.Lexicographic.{pointwise}
 use Rattle.arti_rows.specs.Key.{Key, whole_of, path_of, name_of}
+use Rattle.arti_rows.specs.Moments.{is_moment}
 use Rattle.arti_rows.specs.Names.{key_fault}
 use Rattle.arti_rows.specs.PropTexts.{property_cmp}
+use Rattle.arti_rows.specs.Sizes.{most_content}
 use Rattle.arti_rows.specs.declared.rows.Digests.{Digests}
 use Rattle.arti_rows.specs.declared.rows.SomeDigests.{SomeDigests}
 use Rattle.arti_rows.specs.declared.rows.FileRef.{FileRef}
@@ -31,11 +33,6 @@ use Rattle.arti_codec.specs.Reading.{◌>>=◌, ◌▷◌, made, tested, told_by
 unfoldable pub text_at : List ℕ → Option (List ℕ × List ℕ)
 text_at = tested is_utf8 (told_by (tested (λ n. nat_le n 4096) (number_at w16)) run_at)
 
--- within the years 1 to 9999
-abbrev pub is_moment : ℤ → Bool
-is_moment (pos n) = nat_le n 253402300799999
-is_moment (negsuc n) = nat_le n 62135596799999
-
 unfoldable pub moment_at : List ℕ → Option (ℤ × List ℕ)
 moment_at = tested is_moment (made (cast_signed w64) (number_at w64))
 
@@ -56,7 +53,7 @@ unfoldable pub digests_at : List ℕ → Option (Digests × List ℕ)
 digests_at = made (λ t. record { md5 = t.0; sha1 = t.1.0; sha256 = t.1.1 }) (run_at 16 ▷ run_at 20 ▷ run_at 32)
 
 unfoldable pub file_ref_at : List ℕ → Option (FileRef × List ℕ)
-file_ref_at = made (λ t. record { place = t.0; len = t.1.0; digests = t.1.1 }) (number_at w64 ▷ tested (λ n. nat_le n 67108864) (number_at w64) ▷ digests_at)
+file_ref_at = made (λ t. record { place = t.0; len = t.1.0; digests = t.1.1 }) (number_at w64 ▷ tested (λ n. nat_le n most_content) (number_at w64) ▷ digests_at)
 
 abbrev pub given_of : ℕ → Given
 given_of n = record { md5 = n % 2 == 1; sha1 = n / 2 % 2 == 1; sha256 = n / 4 == 1 }

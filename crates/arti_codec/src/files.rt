@@ -11,7 +11,8 @@ use crate::field::{Field, put_list16, put_u64};
 use crate::props::take_properties;
 use crate::reader::Reader;
 use arti_rows::{
-    Digests, FileRef, Given, ItemKey, ItemRow, Moment, Property, Seq, SomeDigests, Stat, Text,
+    Digests, FileRef, Given, ItemKey, ItemRow, MOST_CONTENT, Moment, Property, Seq, SomeDigests,
+    Stat, Text,
 };
 use std::alloc::{AllocError, Global};
 
@@ -64,7 +65,7 @@ impl Field for FileRef {
     fn take(alloc: Global, reader: &mut Reader<'_>) -> Result<FileRef, DecodeFault> {
         let place = reader.u64()?;
         let len = reader.u64()?;
-        if len > 67_108_864 {
+        if len > MOST_CONTENT {
             return Err(DecodeFault::NotAChange);
         }
         let digests = Digests::take(alloc, reader)?;
