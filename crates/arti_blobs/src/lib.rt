@@ -10,6 +10,3 @@ mod staging;
 pub use blobs::{Blobs, contents_stay};
 pub use fault::{KeepFault, StageFault};
 pub use staging::{Staged, digests_of};
-
-#[cfg(test)]
-mod tests;

@@ -36,6 +36,7 @@ chosen true u v w here later e = here refl e
 chosen false u v w here later e = later e
 
 fields_take : (tag : ℕ) (bytes : List ℕ) (x : Edit) (rest : List ℕ) → IsBytes bytes → fields_at tag bytes ≡ Some (x, rest) → TookFields tag bytes x rest
+unfolding fields_at
 fields_take tag bytes x rest fits =
     chosen (eqb tag 1) _ _ _ (λ is e. made_takes 1 (λ def. edits.Define def) definition_law (λ a h. h) (λ a. refl) tag is bytes x rest fits e) (
     chosen (eqb tag 2) _ _ _ (λ is e. made_takes 2 (λ key. edits.Folder key) item_key_law (λ a h. h) (λ a. refl) tag is bytes x rest fits e) (
@@ -58,7 +59,7 @@ made_again : {A : Type 0} {f : Format A} {r : List ℕ → Option (A × List ℕ
 made_again make p a rest fits = rw (p.again a rest fits) refl
 
 edit_again : (x : Edit) (rest : List ℕ) → KeepsEdit x → edit_at (edit_bytes x ++ rest) ≡ Some (x, rest)
-unfolding edit_at
+unfolding edit_at fields_at
 edit_again (edits.Define def) rest h = made_again (λ def. edits.Define def) definition_law def rest h
 edit_again (edits.Folder key) rest h = made_again (λ key. edits.Folder key) item_key_law key rest h
 edit_again (edits.File key g file props) rest h = made_again (λ t. edits.File t.0 t.1.0 t.1.1.0 t.1.1.1) file_fields_law (key, (g, (file, props))) rest h

@@ -1,3 +1,4 @@
+pub mod MomentTests
 pub mod Loops
 pub mod FieldLaws
 pub mod RowLaws

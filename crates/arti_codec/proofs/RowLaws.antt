@@ -11,29 +11,24 @@ use Rattle.std.proofs.lemmas.List.{length-append}
 use Rattle.std.proofs.lemmas.Str.{IsUtf8-from_is_utf8, is_utf8-from_IsUtf8}
 use Rattle.arti_rows.specs.Key.{Key, whole_of, path_of, name_of}
 use Rattle.arti_rows.specs.Names.{IsKey, key_fault}
-use Rattle.arti_rows.specs.Moments.{IsMoment}
+use Rattle.arti_rows.specs.Moments.{IsMoment, is_moment}
+use Rattle.arti_rows.specs.MomentLaws.{is_moment-true, IsMoment-passes}
+use Rattle.arti_rows.specs.PropTexts.{property_cmp}
+use Rattle.arti_rows.specs.Sizes.{most_content}
 use Rattle.arti_rows.specs.declared.fault.KeyFault.{KeyFault}
 use Rattle.arti_rows.specs.declared.rows.Given.{Given}
 use Rattle.arti_rows.specs.declared.rows.Class.{Class}
 use Rattle.arti_rows.specs.declared.rows.Class.TheVariants.{Local, Remote, Virtual}
 use Rattle.arti_codec.specs.Format.{Format, ◌⨟◌, of_parts, where_holds, number, bit, flag, run, IsThere, optional}
 use Rattle.arti_codec.specs.Reading.{◌▷◌, made, run_at, flag_at, number_at, optional_at}
-use Rattle.arti_codec.specs.Rules.{is_build_name, is_property, property_cmp, ascends, are_prop_keys, is_definition}
-use Rattle.arti_codec.specs.ChangeBytes.{text, moment, item_key, property, properties, digests, file_ref, given, which, some_digests, flagged, stat, item_row, promotion, artifact, dependency, module_row, build_name, build_parts, build_info, info_of, build_row, class_number, class_byte, text_or_none, definition, prop_keys, file_fields, set_fields, drop_fields, promote_fields}
-use Rattle.arti_codec.specs.ReadingRows.{text_at, is_moment, moment_at, is_key, item_key_at, property_at, properties_at, digests_at, file_ref_at, given_of, given_at, some_digests_at, flagged_at, stat_at, item_row_at, promotion_at, artifact_at, dependency_at, module_row_at, build_name_at, build_parts_at, build_info_at, build_row_at, class_of, class_at, none_if_empty, text_or_none_at, definition_parts_at, definition_at, prop_keys_at, file_fields_at, set_fields_at, drop_fields_at, promote_fields_at}
+use Rattle.arti_codec.specs.Rules.{is_build_name, is_property, ascends, are_prop_keys, is_definition}
+use Rattle.arti_codec.specs.ChangeBytes.{text, moment, item_key, property, properties, digests, file_ref, given, which, some_digests, flagged, stat, stamps, stamps_of, held, held_of, item_row, promotion, artifact, dependency, module_row, build_name, build_parts, build_info, info_of, build_row, class_number, class_byte, text_or_none, definition, prop_keys, file_fields, set_fields, drop_fields, promote_fields}
+use Rattle.arti_codec.specs.ReadingRows.{text_at, moment_at, is_key, item_key_at, property_at, properties_at, digests_at, file_ref_at, given_of, given_at, some_digests_at, flagged_at, stat_at, stamps_at, held_at, item_row_of, item_row_at, promotion_at, artifact_at, dependency_at, module_row_at, build_name_at, build_parts_at, build_info_at, build_row_at, class_of, class_at, none_if_empty, text_or_none_at, definition_parts_at, definition_at, prop_keys_at, file_fields_at, set_fields_at, drop_fields_at, promote_fields_at}
 use Rattle.arti_codec.proofs.FieldLaws.{Took, IsRead, pair_law, parts_law, where_law, behind_law, run_law, wide_16, wide_32, wide_64, number_law, code_law, optional_law, listed_law, limited_law, most_law}
 
 pub text_law : IsRead text text_at
 unfolding text text_at
 text_law = where_law IsUtf8 is_utf8 IsUtf8-from_is_utf8 is_utf8-from_IsUtf8 (behind_law length run run_at (λ n t fits. fits.0) (most_law 4096 (number_law w16 wide_16)) run_law)
-
-pub moment_holds : (ms : ℤ) → is_moment ms ≡ true → IsMoment ms
-moment_holds (pos n) e = let h = leb-true n 253402300799999 e in (omega (arith, ints), omega (arith, ints))
-moment_holds (negsuc n) e = let h = leb-true n 62135596799999 e in (omega (arith, ints), omega (arith, ints))
-
-pub moment_passes : (ms : ℤ) → IsMoment ms → is_moment ms ≡ true
-moment_passes (pos n) h = le-leb n 253402300799999 (omega (arith, ints, h.1))
-moment_passes (negsuc n) h = le-leb n 62135596799999 (omega (arith, ints, h.0))
 
 moment_fits : (ms : ℤ) → IsMoment ms → FitsSigned w64 ms
 moment_fits (pos n) h = omega (arith, ints, h.1)
@@ -53,11 +48,11 @@ moment_law = record {
       let same : (cast_signed w64 n.0, n.1) ≡ (x, rest) = same_Some (cast_signed w64 n.0, n.1) a made-a ∙ c.1 in
       let good : is_moment (cast_signed w64 n.0) ≡ true = ap (λ (y : ℤ × List ℕ). is_moment y.0) (same_Some (cast_signed w64 n.0, n.1) a made-a) ∙ c.0 in
       let u : Took (number w64) bytes (cast_unsigned w64 (cast_signed w64 n.0)) n.1 = subst (λ (k : ℕ). Took (number w64) bytes k n.1) (sym back) t in
-      subst (λ (y : ℤ × List ℕ). Took (where_holds IsMoment (of_parts (cast_unsigned w64) (number w64))) bytes y.0 y.1) same ((u.0, moment_holds (cast_signed w64 n.0) good), u.1, u.2)));
+      subst (λ (y : ℤ × List ℕ). Took (where_holds IsMoment (of_parts (cast_unsigned w64) (number w64))) bytes y.0 y.1) same ((u.0, is_moment-true (cast_signed w64 n.0) good), u.1, u.2)));
   again = λ x rest fits.
       let one = (number_law w64 wide_64).again (cast_unsigned w64 x) rest fits.0 in
       let back : cast_signed w64 (cast_unsigned w64 x) ≡ x = to_z-of_z w64 x (moment_fits x fits.1) in
-      rw (one, back, moment_passes x fits.1) refl;
+      rw (one, back, IsMoment-passes x fits.1) refl;
 }
 
 none_is : {A : Type 0} (o : Option A) → is_none o ≡ true → o ≡ None
@@ -108,7 +103,7 @@ digests_law = parts_law (λ d. (d.md5, (d.sha1, d.sha256))) (λ t. record { md5 
 
 pub file_ref_law : IsRead file_ref file_ref_at
 unfolding file_ref file_ref_at
-file_ref_law = parts_law (λ f. (f.place, (f.len, f.digests))) (λ t. record { place = t.0; len = t.1.0; digests = t.1.1 }) (λ a. refl) (λ b. refl) (pair_law (number_law w64 wide_64) (pair_law (most_law 67108864 (number_law w64 wide_64)) digests_law))
+file_ref_law = parts_law (λ f. (f.place, (f.len, f.digests))) (λ t. record { place = t.0; len = t.1.0; digests = t.1.1 }) (λ a. refl) (λ b. refl) (pair_law (number_law w64 wide_64) (pair_law (most_law most_content (number_law w64 wide_64)) digests_law))
 
 flag_small : (b : Bool) → bit b < 2
 flag_small true = omega arith
@@ -188,12 +183,17 @@ pub stat_law : IsRead stat stat_at
 unfolding stat stat_at
 stat_law = parts_law (λ s. (s.downloads, (s.downloaded, s.downloaded_by))) (λ t. record { downloads = t.0; downloaded = t.1.0; downloaded_by = t.1.1 }) (λ a. refl) (λ b. refl) (pair_law (number_law w64 wide_64) (pair_law moment_law text_law))
 
+pub stamps_law : IsRead stamps stamps_at
+unfolding stamps stamps_at
+stamps_law = pair_law moment_law (pair_law text_law (pair_law moment_law (pair_law text_law moment_law)))
+
+pub held_law : IsRead held held_at
+unfolding held held_at
+held_law = pair_law given_law (pair_law (flagged_law file_ref_law) (pair_law (properties_law 1024) (flagged_law stat_law)))
+
 pub item_row_law : IsRead item_row item_row_at
 unfolding item_row item_row_at
-item_row_law = parts_law (λ r. (r.key, (r.created, (r.created_by, (r.modified, (r.modified_by, (r.updated, (r.given, (r.file, (r.props, r.stat))))))))))
-    (λ t. record { key = t.0; created = t.1.0; created_by = t.1.1.0; modified = t.1.1.1.0; modified_by = t.1.1.1.1.0; updated = t.1.1.1.1.1.0; given = t.1.1.1.1.1.1.0; file = t.1.1.1.1.1.1.1.0; props = t.1.1.1.1.1.1.1.1.0; stat = t.1.1.1.1.1.1.1.1.1 })
-    (λ a. refl) (λ b. refl)
-    (pair_law item_key_law (pair_law moment_law (pair_law text_law (pair_law moment_law (pair_law text_law (pair_law moment_law (pair_law given_law (pair_law (flagged_law file_ref_law) (pair_law (properties_law 1024) (flagged_law stat_law))))))))))
+item_row_law = parts_law (λ r. (r.key, (stamps_of r, held_of r))) item_row_of (λ a. refl) (λ b. refl) (pair_law item_key_law (pair_law stamps_law held_law))
 
 pub promotion_law : IsRead promotion promotion_at
 unfolding promotion promotion_at

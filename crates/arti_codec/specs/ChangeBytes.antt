@@ -4,6 +4,8 @@ use Rattle.std.specs.Int.{w16, w32, w64, cast_unsigned}
 use Rattle.arti_rows.specs.Key.{Key}
 use Rattle.arti_rows.specs.Names.{IsKey}
 use Rattle.arti_rows.specs.Moments.{IsMoment}
+use Rattle.arti_rows.specs.PropTexts.{property_cmp}
+use Rattle.arti_rows.specs.Sizes.{most_content}
 use Rattle.arti_rows.specs.declared.rows.Digests.{Digests}
 use Rattle.arti_rows.specs.declared.rows.SomeDigests.{SomeDigests}
 use Rattle.arti_rows.specs.declared.rows.FileRef.{FileRef}
@@ -24,7 +26,7 @@ use Rattle.arti_rows.specs.declared.edits.Edit.{Edit}
 use Rattle.arti_rows.specs.declared.edits.Edit.TheVariants as edits
 use Rattle.arti_rows.specs.declared.edits.Change.{Change}
 use Rattle.arti_codec.specs.Format.{Format, ◌⨟◌, of_parts, where_holds, behind, number, bit, flag, run, listed, limited, optional}
-use Rattle.arti_codec.specs.Rules.{is_build_name, is_property, property_cmp, ascends, are_prop_keys, is_definition}
+use Rattle.arti_codec.specs.Rules.{is_build_name, is_property, ascends, are_prop_keys, is_definition}
 
 -- at most 4,096 bytes of UTF-8 behind their number
 unfoldable pub text : Format (List ℕ)
@@ -51,7 +53,7 @@ digests = of_parts (λ d. (d.md5, (d.sha1, d.sha256))) (run 16 ⨟ run 20 ⨟ ru
 
 -- a place in the contents file, a length, and the digests
 unfoldable pub file_ref : Format FileRef
-file_ref = of_parts (λ f. (f.place, (f.len, f.digests))) (number w64 ⨟ where_holds (λ n. n ≤ 67108864) (number w64) ⨟ digests)
+file_ref = of_parts (λ f. (f.place, (f.len, f.digests))) (number w64 ⨟ where_holds (λ n. n ≤ most_content) (number w64) ⨟ digests)
 
 -- bits 0, 1 and 2 of a byte
 unfoldable pub given : Format Given
@@ -72,9 +74,22 @@ flagged f = behind flag is_some (λ there. optional there f)
 unfoldable pub stat : Format Stat
 stat = of_parts (λ s. (s.downloads, (s.downloaded, s.downloaded_by))) (number w64 ⨟ moment ⨟ text)
 
+-- when an item was made and changed, and by whom
+abbrev pub stamps_of : ItemRow → ℤ × (List ℕ × (ℤ × (List ℕ × ℤ)))
+stamps_of r = (r.created, (r.created_by, (r.modified, (r.modified_by, r.updated))))
+
+unfoldable pub stamps : Format (ℤ × (List ℕ × (ℤ × (List ℕ × ℤ))))
+stamps = moment ⨟ text ⨟ moment ⨟ text ⨟ moment
+
+-- what an item holds
+abbrev pub held_of : ItemRow → Given × (Option FileRef × (List Property × Option Stat))
+held_of r = (r.given, (r.file, (r.props, r.stat)))
+
+unfoldable pub held : Format (Given × (Option FileRef × (List Property × Option Stat)))
+held = given ⨟ flagged file_ref ⨟ properties 1024 ⨟ flagged stat
+
 unfoldable pub item_row : Format ItemRow
-item_row = of_parts (λ r. (r.key, (r.created, (r.created_by, (r.modified, (r.modified_by, (r.updated, (r.given, (r.file, (r.props, r.stat))))))))))
-    (item_key ⨟ moment ⨟ text ⨟ moment ⨟ text ⨟ moment ⨟ given ⨟ flagged file_ref ⨟ properties 1024 ⨟ flagged stat)
+item_row = of_parts (λ r. (r.key, (stamps_of r, held_of r))) (item_key ⨟ stamps ⨟ held)
 
 unfoldable pub promotion : Format PromotionRow
 promotion = of_parts (λ p. (p.created, (p.created_by, (p.status, (p.repo, (p.comment, p.user)))))) (moment ⨟ text ⨟ text ⨟ text ⨟ text ⨟ text)

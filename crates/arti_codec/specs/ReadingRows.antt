@@ -1,10 +1,13 @@
 -- Reading the rows and edits of a change from the front.
-use Rattle.std.specs.Prelude.{ℕ, ◌-◌, ◌/◌, ◌%◌, List, [], ◌∷◌, length, Bool, Option, Some, None, ℤ, pos, negsuc, ◌&&◌, is_none, nat_eq, nat_lt, nat_le, ◌==◌, if◌then◌else◌}
+use Rattle.std.specs.Prelude.{ℕ, ◌-◌, ◌/◌, ◌%◌, List, [], ◌∷◌, length, Bool, Option, Some, None, ℤ, ◌&&◌, is_none, nat_eq, nat_lt, nat_le, ◌==◌, if◌then◌else◌}
 use Rattle.std.specs.Int.{w16, w32, w64, cast_signed}
 use Rattle.std.specs.Str.{is_utf8}
 use Rattle.std.specs.Cmp.Lexicographic.{pointwise}
 use Rattle.arti_rows.specs.Key.{Key, whole_of, path_of, name_of}
+use Rattle.arti_rows.specs.Moments.{is_moment}
 use Rattle.arti_rows.specs.Names.{key_fault}
+use Rattle.arti_rows.specs.PropTexts.{property_cmp}
+use Rattle.arti_rows.specs.Sizes.{most_content}
 use Rattle.arti_rows.specs.declared.rows.Digests.{Digests}
 use Rattle.arti_rows.specs.declared.rows.SomeDigests.{SomeDigests}
 use Rattle.arti_rows.specs.declared.rows.FileRef.{FileRef}
@@ -24,16 +27,11 @@ use Rattle.arti_rows.specs.declared.edits.BuildInfo.{BuildInfo}
 use Rattle.arti_rows.specs.declared.edits.Edit.{Edit}
 use Rattle.arti_rows.specs.declared.edits.Edit.TheVariants as edits
 use Rattle.arti_rows.specs.declared.edits.Change.{Change}
-use Rattle.arti_codec.specs.Rules.{is_build_name, is_property, property_cmp, ascends, are_prop_keys, is_definition}
+use Rattle.arti_codec.specs.Rules.{is_build_name, is_property, ascends, are_prop_keys, is_definition}
 use Rattle.arti_codec.specs.Reading.{◌>>=◌, ◌▷◌, made, tested, told_by, run_at, byte_at, flag_at, number_at, listed_at, limited_at, optional_at}
 
 unfoldable pub text_at : List ℕ → Option (List ℕ × List ℕ)
 text_at = tested is_utf8 (told_by (tested (λ n. nat_le n 4096) (number_at w16)) run_at)
-
--- within the years 1 to 9999
-abbrev pub is_moment : ℤ → Bool
-is_moment (pos n) = nat_le n 253402300799999
-is_moment (negsuc n) = nat_le n 62135596799999
 
 unfoldable pub moment_at : List ℕ → Option (ℤ × List ℕ)
 moment_at = tested is_moment (made (cast_signed w64) (number_at w64))
@@ -55,7 +53,7 @@ unfoldable pub digests_at : List ℕ → Option (Digests × List ℕ)
 digests_at = made (λ t. record { md5 = t.0; sha1 = t.1.0; sha256 = t.1.1 }) (run_at 16 ▷ run_at 20 ▷ run_at 32)
 
 unfoldable pub file_ref_at : List ℕ → Option (FileRef × List ℕ)
-file_ref_at = made (λ t. record { place = t.0; len = t.1.0; digests = t.1.1 }) (number_at w64 ▷ tested (λ n. nat_le n 67108864) (number_at w64) ▷ digests_at)
+file_ref_at = made (λ t. record { place = t.0; len = t.1.0; digests = t.1.1 }) (number_at w64 ▷ tested (λ n. nat_le n most_content) (number_at w64) ▷ digests_at)
 
 abbrev pub given_of : ℕ → Given
 given_of n = record { md5 = n % 2 == 1; sha1 = n / 2 % 2 == 1; sha256 = n / 4 == 1 }
@@ -72,10 +70,18 @@ flagged_at read = told_by flag_at (λ there. optional_at there read)
 unfoldable pub stat_at : List ℕ → Option (Stat × List ℕ)
 stat_at = made (λ t. record { downloads = t.0; downloaded = t.1.0; downloaded_by = t.1.1 }) (number_at w64 ▷ moment_at ▷ text_at)
 
+unfoldable pub stamps_at : List ℕ → Option ((ℤ × (List ℕ × (ℤ × (List ℕ × ℤ)))) × List ℕ)
+stamps_at = moment_at ▷ text_at ▷ moment_at ▷ text_at ▷ moment_at
+
+unfoldable pub held_at : List ℕ → Option ((Given × (Option FileRef × (List Property × Option Stat))) × List ℕ)
+held_at = given_at ▷ flagged_at file_ref_at ▷ properties_at 1024 ▷ flagged_at stat_at
+
+-- the row of its key, its stamps and what it holds
+abbrev pub item_row_of : Key × ((ℤ × (List ℕ × (ℤ × (List ℕ × ℤ)))) × (Given × (Option FileRef × (List Property × Option Stat)))) → ItemRow
+item_row_of t = record { key = t.0; created = t.1.0.0; created_by = t.1.0.1.0; modified = t.1.0.1.1.0; modified_by = t.1.0.1.1.1.0; updated = t.1.0.1.1.1.1; given = t.1.1.0; file = t.1.1.1.0; props = t.1.1.1.1.0; stat = t.1.1.1.1.1 }
+
 unfoldable pub item_row_at : List ℕ → Option (ItemRow × List ℕ)
-item_row_at =
-    made (λ t. record { key = t.0; created = t.1.0; created_by = t.1.1.0; modified = t.1.1.1.0; modified_by = t.1.1.1.1.0; updated = t.1.1.1.1.1.0; given = t.1.1.1.1.1.1.0; file = t.1.1.1.1.1.1.1.0; props = t.1.1.1.1.1.1.1.1.0; stat = t.1.1.1.1.1.1.1.1.1 })
-    (item_key_at ▷ moment_at ▷ text_at ▷ moment_at ▷ text_at ▷ moment_at ▷ given_at ▷ flagged_at file_ref_at ▷ properties_at 1024 ▷ flagged_at stat_at)
+item_row_at = made item_row_of (item_key_at ▷ stamps_at ▷ held_at)
 
 unfoldable pub promotion_at : List ℕ → Option (PromotionRow × List ℕ)
 promotion_at =
@@ -145,7 +151,7 @@ unfoldable pub promote_fields_at : List ℕ → Option ((List ℕ × (List ℕ �
 promote_fields_at = build_name_at ▷ build_name_at ▷ promotion_at
 
 -- the fields of the edit with that number
-abbrev pub fields_at : ℕ → List ℕ → Option (Edit × List ℕ)
+unfoldable pub fields_at : ℕ → List ℕ → Option (Edit × List ℕ)
 fields_at tag bytes =
     if tag == 1 then made (λ def. edits.Define def) definition_at bytes else (
     if tag == 2 then made (λ key. edits.Folder key) item_key_at bytes else (

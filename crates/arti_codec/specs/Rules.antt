@@ -1,44 +1,23 @@
--- The rules of property texts, of builds' names and of definitions, by their bytes (of this project).
-use Rattle.std.specs.Prelude.{ℕ, Bool, true, not, ◌&&◌, ◌||◌, ◌==◌, nat_le, nat_lt, nat_eq, List, [], ◌∷◌, length, codes}
+-- The rules of lists of properties, of builds' names and of definitions, by their bytes (of this project).
+use Rattle.std.specs.Prelude.{ℕ, Bool, true, not, ◌&&◌, ◌==◌, nat_le, nat_lt, nat_eq, List, [], ◌∷◌, length, codes}
 use Rattle.std.specs.List.{list_all, list_any, starts_with}
-use Rattle.std.specs.Ordering.{is_lt, nat_cmp, ordering_then}
+use Rattle.std.specs.Ordering.{is_lt, nat_cmp}
 use Rattle.std.specs.declared.cmp.Ordering.{Ordering}
 use Rattle.std.specs.Cmp.Lexicographic.{slice_cmp}
 use Rattle.arti_rows.specs.Names.{is_repo_key}
+use Rattle.arti_rows.specs.PropTexts.{is_control_byte, is_prop_key, is_prop_value}
 use Rattle.arti_rows.specs.declared.rows.Class.{Class}
 use Rattle.arti_rows.specs.declared.rows.Class.TheVariants.{Local, Remote, Virtual}
 use Rattle.arti_rows.specs.declared.rows.Property.{Property}
 use Rattle.arti_rows.specs.declared.rows.RepoDef.{RepoDef}
 
--- U+0000 to U+001F and U+007F
-abbrev pub is_control : ℕ → Bool
-is_control b = nat_lt b 32 || b == 127
-
 -- a build's name or number: 1 to 255 bytes without control characters
 abbrev pub is_build_name : List ℕ → Bool
-is_build_name name = nat_lt 0 (length name) && nat_le (length name) 255 && not (list_any is_control name)
+is_build_name name = nat_lt 0 (length name) && nat_le (length name) 255 && not (list_any is_control_byte name)
 
--- space = ; , | * ? { } "
-abbrev pub key_marks : List ℕ
-key_marks = 32 ∷ 61 ∷ 59 ∷ 44 ∷ 124 ∷ 42 ∷ 63 ∷ 123 ∷ 125 ∷ 34 ∷ []
-
-abbrev pub is_barred_in_key : ℕ → Bool
-is_barred_in_key b = is_control b || list_any (λ c. c == b) key_marks
-
--- a property's key: 1 to 255 bytes, without control characters and those marks
-abbrev pub is_prop_key : List ℕ → Bool
-is_prop_key key = nat_lt 0 (length key) && nat_le (length key) 255 && not (list_any is_barred_in_key key)
-
--- a property's value: at most 2,048 bytes, without control characters
-abbrev pub is_prop_value : List ℕ → Bool
-is_prop_value value = nat_le (length value) 2048 && not (list_any is_control value)
-
+-- a key and a value that keep their rules
 abbrev pub is_property : Property → Bool
 is_property p = is_prop_key p.key && is_prop_value p.value
-
--- by key, then by value
-abbrev pub property_cmp : Property → Property → Ordering
-property_cmp a b = ordering_then (slice_cmp nat_cmp a.key b.key) (slice_cmp nat_cmp a.value b.value)
 
 abbrev pub text_cmp : List ℕ → List ℕ → Ordering
 text_cmp = slice_cmp nat_cmp

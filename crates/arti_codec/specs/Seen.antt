@@ -1,6 +1,19 @@
--- What contracts see of a build's parts, wherever they lie.
+-- What contracts see of the parts of a build and of an item, wherever they lie.
+use Rattle.std.specs.Prelude.{ℕ, ℤ, List, Option}
+use Rattle.arti_rows.specs.declared.rows.FileRef.{FileRef}
+use Rattle.arti_rows.specs.declared.rows.Property.{Property}
+use Rattle.arti_rows.specs.declared.rows.Stat.{Stat}
+use Rattle.arti_rows.specs.declared.rows.Given.{Given}
 use Rattle.arti_rows.specs.declared.edits.BuildInfo.{BuildInfo}
 use Rattle.arti_codec.specs.declared.builds.Parts.{Parts}
+use Rattle.arti_codec.specs.declared.files.Stamps.{Stamps}
+use Rattle.arti_codec.specs.declared.files.Held.{Held}
 
 abbrev pub seen : Parts → BuildInfo
 seen p = record { name = p.name.now; number = p.number.now; started = p.started; url = p.url.now; props = p.props.now; modules = p.modules.now; document = p.document.now }
+
+abbrev pub stamps_seen : Stamps → ℤ × (List ℕ × (ℤ × (List ℕ × ℤ)))
+stamps_seen s = (s.created, (s.created_by, (s.modified, (s.modified_by, s.updated))))
+
+abbrev pub held_seen : Held → Given × (Option FileRef × (List Property × Option Stat))
+held_seen h = (h.given, (h.file, (h.props, h.stat)))

@@ -1,7 +1,7 @@
 // Definitions of repositories.
 ghost use Rattle.std.specs.Prelude.{◌≡◌, ◌++◌, OnOk, codes, nat_eq};
 ghost use Rattle.std.specs.List.{list_all, starts_with};
-ghost use Rattle.arti_rows.specs.Names.{is_repo_key, is_repo_byte, is_one_of, reserved_keys};
+ghost use Rattle.arti_rows.specs.Names.{is_repo_key};
 ghost use Rattle.arti_codec.specs.Rules.{fits_class, is_definition};
 ghost use Rattle.arti_codec.specs.ChangeBytes.{class_byte, text_or_none, definition};
 ghost use Rattle.arti_codec.specs.Reading.{Gives};
@@ -10,7 +10,7 @@ ghost use Rattle.arti_codec.specs.ReadingRows.{class_at, text_or_none_at, defini
 use crate::fault::DecodeFault;
 use crate::field::{Field, put_list16, put_u16, take_some16};
 use crate::reader::Reader;
-use arti_rows::{Class, RepoDef, Text};
+use arti_rows::{Class, RepoDef, Text, is_repo_key};
 use std::alloc::{AllocError, Global};
 
 impl Field for Class {
@@ -62,34 +62,6 @@ fn take_unless_empty(alloc: Global, reader: &mut Reader<'_>) -> Result<Option<Te
         return Ok(None);
     }
     Ok(Some(Text::from_str(alloc, text)?))
-}
-
-// Whether a text may be a repository's key.
-fn is_repo_key(key: &str) -> bool
-    ensures { result ≡ is_repo_key key.now }
-{
-    if key.is_empty() || key.len() > 64 {
-        return false;
-    }
-    has_repo_bytes(key.as_bytes()) && !is_reserved(key)
-}
-
-fn has_repo_bytes(bytes: &[u8]) -> bool
-    ensures { result ≡ list_all is_repo_byte bytes.now }
-{
-    bytes.iter().all(|b| is_repo_byte(*b))
-}
-
-fn is_repo_byte(b: u8) -> bool
-    ensures { result ≡ is_repo_byte b }
-{
-    b.is_ascii_alphanumeric() || b == b'-' || b == b'_' || b == b'.'
-}
-
-fn is_reserved(key: &str) -> bool
-    ensures { result ≡ is_one_of reserved_keys key.now }
-{
-    key == "." || key == ".." || key == "api" || key == "artifactory"
 }
 
 fn are_repo_keys(keys: &[Text]) -> bool

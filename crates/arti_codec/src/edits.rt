@@ -1,10 +1,10 @@
 // Edits.
 ghost use Rattle.std.specs.Prelude.{◌≡◌, ◌++◌, ◌∷◌, OnOk};
-ghost use Rattle.arti_rows.specs.declared.edits.Edit.TheVariants.{File, Move, Copy, SetProps, DropProps, Unbuild, Promote};
+ghost use Rattle.arti_rows.specs.declared.edits.Edit.TheVariants.{Define, Folder, File, Remove, Move, Copy, SetProps, DropProps, Downloaded, Build, Unbuild, Promote, Kept, Item, Held};
 ghost use Rattle.arti_codec.specs.Format.{◌⨟◌};
 ghost use Rattle.arti_codec.specs.ChangeBytes.{item_key, build_name, file_fields, set_fields, drop_fields, promote_fields, edit};
 ghost use Rattle.arti_codec.specs.Reading.{Gives, made, ◌▷◌};
-ghost use Rattle.arti_codec.specs.ReadingRows.{item_key_at, build_name_at, file_fields_at, set_fields_at, drop_fields_at, promote_fields_at, fields_at, edit_at};
+ghost use Rattle.arti_codec.specs.ReadingRows.{definition_at, item_key_at, file_ref_at, item_row_at, build_name_at, build_info_at, build_row_at, file_fields_at, set_fields_at, drop_fields_at, promote_fields_at, fields_at, edit_at};
 
 use crate::fault::DecodeFault;
 use crate::field::{Field, put_list16};
@@ -157,51 +157,84 @@ fn put_promote(
 }
 
 // Reads the fields of the edit with that number.
+#[tactic(auto, unfolding(crate::specs::ReadingRows::fields_at))]
 fn take_fields(alloc: Global, reader: &mut Reader<'_>, tag: u8) -> Result<Edit, DecodeFault>
     ensures { Gives result (fields_at tag reader.old) reader.new }
 {
     match tag {
-        1 => {
-            let def = RepoDef::take(alloc, reader)?;
-            Ok(Edit::Define { def })
-        }
-        2 => {
-            let key = ItemKey::take(alloc, reader)?;
-            Ok(Edit::Folder { key })
-        }
+        1 => take_define(alloc, reader),
+        2 => take_folder(alloc, reader),
         3 => take_file(alloc, reader),
-        4 => {
-            let key = ItemKey::take(alloc, reader)?;
-            Ok(Edit::Remove { key })
-        }
+        4 => take_remove(alloc, reader),
         5 => take_move(alloc, reader),
         6 => take_copy(alloc, reader),
         7 => take_set_props(alloc, reader),
         8 => take_drop_props(alloc, reader),
-        9 => {
-            let key = ItemKey::take(alloc, reader)?;
-            Ok(Edit::Downloaded { key })
-        }
-        10 => {
-            let info = BuildInfo::take(alloc, reader)?;
-            Ok(Edit::Build { info })
-        }
+        9 => take_downloaded(alloc, reader),
+        10 => take_build(alloc, reader),
         11 => take_unbuild(alloc, reader),
         12 => take_promote(alloc, reader),
-        13 => {
-            let file = FileRef::take(alloc, reader)?;
-            Ok(Edit::Kept { file })
-        }
-        14 => {
-            let row = ItemRow::take(alloc, reader)?;
-            Ok(Edit::Item { row })
-        }
-        15 => {
-            let row = BuildRow::take(alloc, reader)?;
-            Ok(Edit::Held { row })
-        }
+        13 => take_kept(alloc, reader),
+        14 => take_item(alloc, reader),
+        15 => take_held(alloc, reader),
         _ => Err(DecodeFault::NotAChange),
     }
+}
+
+fn take_define(alloc: Global, reader: &mut Reader<'_>) -> Result<Edit, DecodeFault>
+    ensures { Gives result (made (λ def. Define def) definition_at reader.old) reader.new }
+{
+    let def = RepoDef::take(alloc, reader)?;
+    Ok(Edit::Define { def })
+}
+
+fn take_folder(alloc: Global, reader: &mut Reader<'_>) -> Result<Edit, DecodeFault>
+    ensures { Gives result (made (λ key. Folder key) item_key_at reader.old) reader.new }
+{
+    let key = ItemKey::take(alloc, reader)?;
+    Ok(Edit::Folder { key })
+}
+
+fn take_remove(alloc: Global, reader: &mut Reader<'_>) -> Result<Edit, DecodeFault>
+    ensures { Gives result (made (λ key. Remove key) item_key_at reader.old) reader.new }
+{
+    let key = ItemKey::take(alloc, reader)?;
+    Ok(Edit::Remove { key })
+}
+
+fn take_downloaded(alloc: Global, reader: &mut Reader<'_>) -> Result<Edit, DecodeFault>
+    ensures { Gives result (made (λ key. Downloaded key) item_key_at reader.old) reader.new }
+{
+    let key = ItemKey::take(alloc, reader)?;
+    Ok(Edit::Downloaded { key })
+}
+
+fn take_build(alloc: Global, reader: &mut Reader<'_>) -> Result<Edit, DecodeFault>
+    ensures { Gives result (made (λ info. Build info) build_info_at reader.old) reader.new }
+{
+    let info = BuildInfo::take(alloc, reader)?;
+    Ok(Edit::Build { info })
+}
+
+fn take_kept(alloc: Global, reader: &mut Reader<'_>) -> Result<Edit, DecodeFault>
+    ensures { Gives result (made (λ file. Kept file) file_ref_at reader.old) reader.new }
+{
+    let file = FileRef::take(alloc, reader)?;
+    Ok(Edit::Kept { file })
+}
+
+fn take_item(alloc: Global, reader: &mut Reader<'_>) -> Result<Edit, DecodeFault>
+    ensures { Gives result (made (λ row. Item row) item_row_at reader.old) reader.new }
+{
+    let row = ItemRow::take(alloc, reader)?;
+    Ok(Edit::Item { row })
+}
+
+fn take_held(alloc: Global, reader: &mut Reader<'_>) -> Result<Edit, DecodeFault>
+    ensures { Gives result (made (λ row. Held row) build_row_at reader.old) reader.new }
+{
+    let row = BuildRow::take(alloc, reader)?;
+    Ok(Edit::Held { row })
 }
 
 #[tactic(auto, unfolding(crate::specs::ReadingRows::file_fields_at))]

@@ -1,15 +1,19 @@
 // Digests, content references and items.
 ghost use Rattle.std.specs.Prelude.{◌≡◌, ◌++◌, OnOk};
 ghost use Rattle.arti_codec.specs.Format.{bytes_of_some};
-ghost use Rattle.arti_codec.specs.ChangeBytes.{digests, file_ref, given, some_digests, flagged, stat, item_row};
-ghost use Rattle.arti_codec.specs.Reading.{Gives, run_at, optional_at};
-ghost use Rattle.arti_codec.specs.ReadingRows.{digests_at, file_ref_at, given_at, some_digests_at, flagged_at, stat_at, item_row_at};
+ghost use Rattle.arti_codec.specs.ChangeBytes.{digests, file_ref, given, some_digests, flagged, stat, stamps, stamps_of, held, held_of, item_row};
+ghost use Rattle.arti_codec.specs.Reading.{Gives, GivesSeen, run_at, optional_at};
+ghost use Rattle.arti_codec.specs.ReadingRows.{digests_at, file_ref_at, given_at, some_digests_at, flagged_at, stat_at, stamps_at, held_at, item_row_of, item_row_at};
+ghost use Rattle.arti_codec.specs.Seen.{stamps_seen, held_seen};
 
 use crate::fault::DecodeFault;
 use crate::field::{Field, put_list16, put_u64};
 use crate::props::take_properties;
 use crate::reader::Reader;
-use arti_rows::{Digests, FileRef, Given, ItemKey, ItemRow, Moment, SomeDigests, Stat, Text};
+use arti_rows::{
+    Digests, FileRef, Given, ItemKey, ItemRow, MOST_CONTENT, Moment, Property, Seq, SomeDigests,
+    Stat, Text,
+};
 use std::alloc::{AllocError, Global};
 
 // Reads a digest of that length.
@@ -61,7 +65,7 @@ impl Field for FileRef {
     fn take(alloc: Global, reader: &mut Reader<'_>) -> Result<FileRef, DecodeFault> {
         let place = reader.u64()?;
         let len = reader.u64()?;
-        if len > 67_108_864 {
+        if len > MOST_CONTENT {
             return Err(DecodeFault::NotAChange);
         }
         let digests = Digests::take(alloc, reader)?;
@@ -201,49 +205,121 @@ impl Field for Stat {
     }
 }
 
+// When an item was made and changed, and by whom.
+#[derive(Drop)]
+struct Stamps {
+    created: Moment,
+    created_by: Text,
+    modified: Moment,
+    modified_by: Text,
+    updated: Moment,
+}
+
+// What an item holds.
+#[derive(Drop)]
+struct Held {
+    given: Given,
+    file: Option<FileRef>,
+    props: Seq<Property>,
+    stat: Option<Stat>,
+}
+
+// Adds when an item was made and changed, and by whom.
+#[tactic(auto, unfolding(crate::specs::ChangeBytes::stamps))]
+fn put_stamps(out: &mut Vec<u8>, row: &ItemRow) -> Result<(), AllocError>
+    requires { stamps.keeps (stamps_of row.now) }
+    ensures { OnOk result (out.new.items ≡ out.old.items ++ stamps.spell (stamps_of row.now)) }
+{
+    row.created.put(out)?;
+    row.created_by.put(out)?;
+    row.modified.put(out)?;
+    row.modified_by.put(out)?;
+    row.updated.put(out)
+}
+
+// Adds what an item holds.
+#[tactic(auto, unfolding(crate::specs::ChangeBytes::held, crate::specs::ChangeBytes::properties))]
+fn put_held(out: &mut Vec<u8>, row: &ItemRow) -> Result<(), AllocError>
+    requires { held.keeps (held_of row.now) }
+    ensures { OnOk result (out.new.items ≡ out.old.items ++ held.spell (held_of row.now)) }
+{
+    row.given.put(out)?;
+    put_flagged(out, &row.file)?;
+    put_list16(out, row.props.as_slice())?;
+    put_flagged(out, &row.stat)
+}
+
+// Reads when an item was made and changed, and by whom.
+#[tactic(auto, unfolding(crate::specs::ReadingRows::stamps_at))]
+fn take_stamps(alloc: Global, reader: &mut Reader<'_>) -> Result<Stamps, DecodeFault>
+    ensures { GivesSeen stamps_seen result (stamps_at reader.old) reader.new }
+{
+    let created = Moment::take(alloc, reader)?;
+    let created_by = Text::take(alloc, reader)?;
+    let modified = Moment::take(alloc, reader)?;
+    let modified_by = Text::take(alloc, reader)?;
+    let updated = Moment::take(alloc, reader)?;
+    Ok(Stamps {
+        created,
+        created_by,
+        modified,
+        modified_by,
+        updated,
+    })
+}
+
+// Reads what an item holds.
+#[tactic(auto, unfolding(crate::specs::ReadingRows::held_at))]
+fn take_held(alloc: Global, reader: &mut Reader<'_>) -> Result<Held, DecodeFault>
+    ensures { GivesSeen held_seen result (held_at reader.old) reader.new }
+{
+    let given = Given::take(alloc, reader)?;
+    let file = take_flagged::<FileRef>(alloc, reader)?;
+    let props = take_properties(alloc, reader, 1_024)?;
+    let stat = take_flagged::<Stat>(alloc, reader)?;
+    Ok(Held {
+        given,
+        file,
+        props,
+        stat,
+    })
+}
+
+// The row of its parts.
+fn row_of_parts(key: ItemKey, stamps: Stamps, held: Held) -> ItemRow
+    ensures { result ≡ item_row_of (key, (stamps_seen stamps, held_seen held)) }
+{
+    ItemRow {
+        key,
+        created: stamps.created,
+        created_by: stamps.created_by,
+        modified: stamps.modified,
+        modified_by: stamps.modified_by,
+        updated: stamps.updated,
+        given: held.given,
+        file: held.file,
+        props: held.props,
+        stat: held.stat,
+    }
+}
+
 impl Field for ItemRow {
     ghost format = { item_row };
 
     ghost read = { item_row_at };
 
-    #[tactic(auto, unfolding(crate::specs::ChangeBytes::item_row, crate::specs::ChangeBytes::properties))]
+    #[tactic(auto, unfolding(crate::specs::ChangeBytes::item_row))]
     fn put(&self, out: &mut Vec<u8>) -> Result<(), AllocError> {
         self.key.put(out)?;
-        self.created.put(out)?;
-        self.created_by.put(out)?;
-        self.modified.put(out)?;
-        self.modified_by.put(out)?;
-        self.updated.put(out)?;
-        self.given.put(out)?;
-        put_flagged(out, &self.file)?;
-        put_list16(out, self.props.as_slice())?;
-        put_flagged(out, &self.stat)?;
-        Ok(())
+        put_stamps(out, self)?;
+        put_held(out, self)
     }
 
     #[tactic(auto, unfolding(crate::specs::ReadingRows::item_row_at))]
     fn take(alloc: Global, reader: &mut Reader<'_>) -> Result<ItemRow, DecodeFault> {
         let key = ItemKey::take(alloc, reader)?;
-        let created = Moment::take(alloc, reader)?;
-        let created_by = Text::take(alloc, reader)?;
-        let modified = Moment::take(alloc, reader)?;
-        let modified_by = Text::take(alloc, reader)?;
-        let updated = Moment::take(alloc, reader)?;
-        let given = Given::take(alloc, reader)?;
-        let file = take_flagged::<FileRef>(alloc, reader)?;
-        let props = take_properties(alloc, reader, 1_024)?;
-        let stat = take_flagged::<Stat>(alloc, reader)?;
-        Ok(ItemRow {
-            key,
-            created,
-            created_by,
-            modified,
-            modified_by,
-            updated,
-            given,
-            file,
-            props,
-            stat,
-        })
+        let stamps = take_stamps(alloc, reader)?;
+        let held = take_held(alloc, reader)?;
+        Ok(row_of_parts(key, stamps, held))
     }
 }

@@ -16,6 +16,3 @@ mod texts;
 pub use change::{decode, encode};
 pub use fault::DecodeFault;
 pub use laws::bytes_are_of_one_change;
-
-#[cfg(test)]
-mod tests;

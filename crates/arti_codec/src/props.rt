@@ -1,8 +1,9 @@
 // Properties and their keys.
-ghost use Rattle.std.specs.Prelude.{◌≡◌, ◌==◌};
-ghost use Rattle.std.specs.List.{list_any, list_all};
+ghost use Rattle.std.specs.Prelude.{◌≡◌};
+ghost use Rattle.std.specs.List.{list_all};
 ghost use Rattle.std.specs.Int.{w16};
-ghost use Rattle.arti_codec.specs.Rules.{key_marks, is_barred_in_key, is_prop_key, is_prop_value, is_property, property_cmp, text_cmp, comes_first, ascends, are_prop_keys};
+ghost use Rattle.arti_codec.specs.Rules.{is_property, text_cmp, comes_first, ascends, are_prop_keys};
+ghost use Rattle.arti_rows.specs.PropTexts.{is_prop_key, property_cmp};
 ghost use Rattle.arti_codec.specs.ChangeBytes.{property};
 ghost use Rattle.arti_codec.specs.Reading.{Gives};
 ghost use Rattle.arti_codec.specs.ReadingRows.{property_at, properties_at, prop_keys_at};
@@ -10,8 +11,7 @@ ghost use Rattle.arti_codec.specs.ReadingRows.{property_at, properties_at, prop_
 use crate::fault::DecodeFault;
 use crate::field::{Field, take_list16, take_some16};
 use crate::reader::Reader;
-use crate::texts::{has_control, is_control};
-use arti_rows::{Property, Seq, Text};
+use arti_rows::{Property, Seq, Text, is_prop_key, is_prop_value};
 use std::alloc::{AllocError, Global};
 use std::cmp::Ordering;
 
@@ -42,41 +42,6 @@ fn is_property(key: &str, value: &str) -> bool
     ensures { result ≡ is_property (record { key = key.now; value = value.now }) }
 {
     is_prop_key(key) && is_prop_value(value)
-}
-
-// Whether a text may be a property's key.
-fn is_prop_key(key: &str) -> bool
-    ensures { result ≡ is_prop_key key.now }
-{
-    !key.is_empty() && key.len() <= 255 && !has_barred(key.as_bytes())
-}
-
-fn has_barred(bytes: &[u8]) -> bool
-    ensures { result ≡ list_any is_barred_in_key bytes.now }
-{
-    bytes.iter().any(|b| is_barred(*b))
-}
-
-fn is_barred(b: u8) -> bool
-    ensures { result ≡ is_barred_in_key b }
-{
-    is_control(b) || is_mark(b)
-}
-
-fn is_mark(b: u8) -> bool
-    ensures { result ≡ list_any (λ c. c == b) key_marks }
-{
-    match b {
-        b' ' | b'=' | b';' | b',' | b'|' | b'*' | b'?' | b'{' | b'}' | b'"' => true,
-        _ => false,
-    }
-}
-
-// Whether a text may be a property's value.
-fn is_prop_value(value: &str) -> bool
-    ensures { result ≡ is_prop_value value.now }
-{
-    value.len() <= 2048 && !has_control(value.as_bytes())
 }
 
 // Whether each stands before the one behind it.

@@ -1,10 +1,9 @@
 // Texts, moments, keys of items, and names.
 ghost use Rattle.std.specs.Prelude.{◌≡◌, ◌++◌, ◌∷◌, ◌&&◌, false, IfOk, IfErr, OnOk, OnErr, nat_eq, string_bytes};
-ghost use Rattle.std.specs.List.{list_any};
 ghost use Rattle.std.specs.Cmp.Lexicographic.{pointwise};
 ghost use Rattle.arti_rows.specs.Key.{whole_of};
 ghost use Rattle.arti_codec.specs.declared.fault.DecodeFault.TheVariants.{NotAChange};
-ghost use Rattle.arti_codec.specs.Rules.{is_control, is_build_name};
+ghost use Rattle.arti_codec.specs.Rules.{is_build_name};
 ghost use Rattle.arti_codec.specs.ChangeBytes.{text, moment, item_key, build_name};
 ghost use Rattle.arti_codec.specs.Reading.{Gives, Passes};
 ghost use Rattle.arti_codec.specs.ReadingRows.{text_at, moment_at, is_key, item_key_at, build_name_at};
@@ -12,7 +11,7 @@ ghost use Rattle.arti_codec.specs.ReadingRows.{text_at, moment_at, is_key, item_
 use crate::fault::DecodeFault;
 use crate::field::{Field, put_u16, put_u64};
 use crate::reader::Reader;
-use arti_rows::{ItemKey, KeyFault, Moment, Text};
+use arti_rows::{ItemKey, KeyFault, Moment, Text, has_control};
 use std::alloc::{AllocError, Global};
 
 impl Field for Text {
@@ -44,7 +43,7 @@ impl Field for Moment {
         put_u64(out, self.ms().cast_unsigned())
     }
 
-    #[tactic(auto, unfolding(crate::specs::ReadingRows::moment_at), using(crate::proofs::RowLaws::moment_holds, crate::proofs::RowLaws::moment_passes))]
+    #[tactic(auto, unfolding(crate::specs::ReadingRows::moment_at), using(crate::proofs::MomentTests::moment_tests))]
     fn take(_alloc: Global, reader: &mut Reader<'_>) -> Result<Moment, DecodeFault> {
         let ms = reader.u64()?.cast_signed();
         match Moment::new(ms) {
@@ -134,18 +133,6 @@ fn is_build_name(name: &str) -> bool
     ensures { result ≡ is_build_name name.now }
 {
     !name.is_empty() && name.len() <= 255 && !has_control(name.as_bytes())
-}
-
-pub fn has_control(bytes: &[u8]) -> bool
-    ensures { result ≡ list_any is_control bytes.now }
-{
-    bytes.iter().any(|b| is_control(*b))
-}
-
-pub fn is_control(b: u8) -> bool
-    ensures { result ≡ is_control b }
-{
-    b < 32 || b == 127
 }
 
 // Adds the bytes of a build's name or number.

@@ -1,11 +1,11 @@
 -- Items that are put among others keep the default order.
-use Rattle.std.proofs.Common.{◌≡◌, zero, suc, Bool, true, false, cond, List, [], ◌∷◌, ◌++◌, refl, arith, Ordering, Less, Equal, Greater}
+use Rattle.std.proofs.Common.{◌≡◌, zero, suc, Bool, true, List, [], ◌∷◌, ◌++◌, refl, arith, Ordering, Less, Equal, Greater}
 use Rattle.std.specs.Prelude.{All, filter}
 use Rattle.std.specs.List.{AllPairs}
 use Rattle.std.specs.Ordering.{is_lt}
 use Rattle.std.specs.Cmp.{IsTotalOrder}
 use Rattle.std.proofs.lemmas.Cmp.{then_total, on_total, nat_list_cmp_total}
-use Rattle.std.proofs.lemmas.List.Elements.{All-cons, All-head, All-tail, All-nil, All-append, All-weaker}
+use Rattle.std.proofs.lemmas.List.Elements.{All-cons, All-head, All-tail, All-append, All-weaker, filter_passes}
 use Rattle.std.proofs.lemmas.List.Kept.{AllPairs-cons, AllPairs-filter}
 use Rattle.arti_rows.specs.Key.{Key, key_cmp}
 use Rattle.arti_model.specs.Store.{Item, InDefaultOrder, put_item}
@@ -20,15 +20,6 @@ less_by : (o : Ordering) → is_lt o ≡ true → o ≡ Less
 less_by Less e = refl
 less_by Equal e = cc
 less_by Greater e = cc
-
--- what a filter keeps passes its test
-kept_by : {X : Type 0} (b : Bool) (p : X → Bool) (P : X → Type 0) (x : X) (rest : List X) → p x ≡ b → (p x ≡ true → P x) → All P rest → All P (cond b (x ∷ rest) rest)
-kept_by true p P x rest e f more = All-cons P x rest (f e) more
-kept_by false p P x rest e f more = more
-
-kept_pass : {X : Type 0} (p : X → Bool) (P : X → Type 0) → ((x : X) → p x ≡ true → P x) → (xs : List X) → All P (filter p xs)
-kept_pass p P f [] = All-nil P
-kept_pass p P f (x ∷ xs) = kept_by (p x) p P x (filter p xs) refl (f x) (kept_pass p P f xs)
 
 module _ {X : Type 0} (R : X → X → Type 0) where
   heads : (x : X) (xs : List X) → AllPairs R (x ∷ xs) → All (R x) xs
@@ -47,8 +38,8 @@ pub put_in_order : (new : Item) (items : List Item) → InDefaultOrder items →
 put_in_order new items order =
     let less : Item → Bool = λ item. is_lt (key_cmp item.key new.key) in
     let more : Item → Bool = λ item. is_lt (key_cmp new.key item.key) in
-    let before : All (λ x. Before x new) (filter less items) = kept_pass less (λ x. Before x new) (λ x e. less_by (key_cmp x.key new.key) e) items in
-    let behind : All (λ y. Before new y) (filter more items) = kept_pass more (λ y. Before new y) (λ y e. less_by (key_cmp new.key y.key) e) items in
+    let before : All (λ x. Before x new) (filter less items) = All-weaker (λ x. less x ≡ true) (λ x. Before x new) (λ x e. less_by (key_cmp x.key new.key) e) (filter less items) (filter_passes less items) in
+    let behind : All (λ y. Before new y) (filter more items) = All-weaker (λ y. more y ≡ true) (λ y. Before new y) (λ y e. less_by (key_cmp new.key y.key) e) (filter more items) (filter_passes more items) in
     pairs_append Before (filter less items) (new ∷ filter more items)
     (All-weaker (λ x. Before x new) (λ x. All (Before x) (new ∷ filter more items))
     (λ x e. All-cons (Before x) new (filter more items) e (All-weaker (λ y. Before new y) (Before x) (λ y f. total.trans x.key new.key y.key e f) (filter more items) behind))

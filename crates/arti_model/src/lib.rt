@@ -1,8 +1,12 @@
 //! What the program's promises speak of: definitions on lists of bytes, and laws about them.
 #![tactic(auto)]
 
-ghost use Rattle.std.specs.Prelude.{◌≡◌, ℕ, List};
+ghost use Rattle.std.specs.Prelude.{◌≡◌, ℕ, ℤ, List};
+ghost use Rattle.arti_rows.specs.declared.limits.Limits.{Limits};
 ghost use Rattle.arti_model.specs.Requests.{Start, Begins, Whole, Ending, RequestBytes};
+ghost use Rattle.arti_model.specs.Stock.{Stock};
+ghost use Rattle.arti_model.specs.Store.{Item, InDefaultOrder, put_item};
+ghost use Rattle.arti_model.specs.Run.{AnswersAll, run_bytes};
 
 /// Why the bytes of a stream are no request.
 #[derive(Clone, Copy, Debug, PartialEq, Eq, Hash)]
@@ -30,18 +34,11 @@ pub fn bytes_are_read_in_one_way()
         → RequestBytes content most bytes qs e → RequestBytes content most bytes rs f → (qs ≡ rs) × (e ≡ f) }
 {}
 
-ghost use Rattle.std.specs.Prelude.{ℤ};
-ghost use Rattle.arti_rows.specs.declared.limits.Limits.{Limits};
-ghost use Rattle.arti_model.specs.Stock.{Stock};
-ghost use Rattle.arti_model.specs.Run.{AnswersAll, run_bytes};
-
 /// The bytes of a run are determined, where no request found too little memory.
 pub fn steps_answer_all()
     ensures { (limits : Limits) (moments : List ℤ) (s : Stock) (qs : List Whole) (ending : Ending)
         → AnswersAll limits moments s qs ending (run_bytes limits moments s qs ending) }
 {}
-
-ghost use Rattle.arti_model.specs.Store.{Item, InDefaultOrder, put_item};
 
 /// Items that stand in the default order do so when one is put among them.
 pub fn items_keep_their_order()

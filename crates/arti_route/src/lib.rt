@@ -8,6 +8,3 @@ mod fields;
 pub use ask::{has_method, is_query, item_asked};
 pub use digests::{given_of, has_digests, lacks_digest, mismatch};
 pub use fields::{bad_header, is_checksum_deploy, wanted_digests};
-
-#[cfg(test)]
-mod tests;

@@ -15,6 +15,3 @@ pub use fields::Field;
 pub use head::Request;
 pub use reply::response_head;
 pub use wire::{NextHead, Phase, Piece, Wire, WireFault};
-
-#[cfg(test)]
-mod tests;

@@ -1,5 +1,8 @@
 // Heads against what they ask, and digests against those of a content.
-use super::*;
+use arti_route::{
+    bad_header, given_of, has_digests, is_checksum_deploy, is_query, item_asked, lacks_digest,
+    mismatch, wanted_digests,
+};
 use arti_rows::{Digests, Seq, SomeDigests, Text};
 use arti_wire::{Field, Request};
 use std::alloc::{AllocError, Global};

@@ -1,7 +1,7 @@
 use Rattle.std.proofs.Common.{◌≡◌}
 use Rattle.std.specs.Prelude.{IsSome}
 use Rattle.arti_blobs.specs.Contents.{HoldsContents}
-use Rattle.arti_blobs.proofs.tests.stage.Given as goal
+use Rattle.arti_disk_tests.proofs.blobs.stage.Given as goal
 
 abbrev pub invariant-pieces : goal.invariant-pieces
 invariant-pieces g l = record {

@@ -1,5 +1,5 @@
 // Bytes and changes, both ways, and bytes that are no change.
-use crate::{DecodeFault, decode, encode};
+use arti_codec::{DecodeFault, decode, encode};
 use std::alloc::{AllocError, Global};
 use std::test::*;
 

@@ -3,7 +3,7 @@ ghost use Rattle.std.specs.Prelude.{◌≡◌, ◌+◌, ◌≤◌, ◌<◌, ◌^
 ghost use Rattle.arti_ground.specs.State.{State};
 ghost use Rattle.arti_blobs.specs.Contents.{end_of, kept_with, staged_length, HoldsContents};
 
-use super::*;
+use arti_blobs::{Blobs, KeepFault, StageFault, Staged, digests_of};
 use arti_ground::{FaultyGround, Ground, MemoryGround};
 use arti_rows::{Digests, FileRef};
 use std::alloc::{AllocError, Global};

@@ -1,5 +1,5 @@
 use Rattle.arti_wire.specs.Framing.{IsInBody}
-use Rattle.arti_wire.proofs.tests.read_body.Given as goal
+use Rattle.arti_disk_tests.proofs.wire.read_body.Given as goal
 
 abbrev pub invariant-pieces : goal.invariant-pieces
 invariant-pieces l = IsInBody l.wire.phase

@@ -2,10 +2,9 @@
 ghost use Rattle.std.specs.Prelude.{◌≡◌, ◌≤◌, true, false, IfOk, IsSome, All};
 ghost use Rattle.arti_wire.specs.Framing.{IsInBody};
 
-use crate::{NextHead, Phase, Piece, Request, Wire, WireFault, response_head};
 use arti_ground::MemorySource;
-use arti_model::Why;
 use arti_rows::{Digests, Limits};
+use arti_wire::{NextHead, Phase, Piece, Request, Why, Wire, WireFault, response_head};
 use std::alloc::{AllocError, Global};
 use std::test::Fail;
 

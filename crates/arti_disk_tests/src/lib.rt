@@ -1,0 +1,9 @@
+//! Tests of grounds, journals, contents and wires, and of what requests ask, by public calls alone.
+#![tactic(auto)]
+
+#[cfg(test)]
+mod blobs;
+#[cfg(test)]
+mod route;
+#[cfg(test)]
+mod wire;
