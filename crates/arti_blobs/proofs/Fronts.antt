@@ -3,7 +3,7 @@ use Rattle.std.proofs.Common.{◌≡◌, ℕ, ◌+◌, ◌-◌, ◌≤◌, List,
 use Rattle.std.proofs.lemmas.List.{take_at, drop_at, drop-take, take-take, length-take-le}
 use Rattle.arti_rows.specs.declared.rows.FileRef.{FileRef}
 use Rattle.arti_ground.specs.State.{Bytes, State, Holds, Torn, In, Follows, Passes, DiskTime}
-use Rattle.arti_ground.proofs.Moments.{passes_map}
+use Rattle.arti_ground.specs.Moments.{passes_map}
 use Rattle.arti_blobs.specs.Contents.{content, KeepsFront, Behind}
 
 -- first bytes in two parts

@@ -4,6 +4,10 @@
 #[cfg(test)]
 mod blobs;
 #[cfg(test)]
+mod ground;
+#[cfg(test)]
+mod journal;
+#[cfg(test)]
 mod route;
 #[cfg(test)]
 mod wire;

@@ -1,7 +1,7 @@
 -- The two halves of an append, and what a crash leaves in each.
 use Rattle.std.proofs.Common.{arith, ◌-◌, ◌≡◌, ◌≢◌, ℕ, ◌+◌, List, [], ◌∷◌, ◌++◌, length, drop, sym, ◌∙◌, subst, inl, inr, ◌⊎◌, ⊎_elim}
 use Rattle.arti_ground.specs.State.{Bytes, State, Holds, Torn, In, IsDurable, Passes, Writing}
-use Rattle.arti_ground.proofs.Moments.{passes_map, passes_then}
+use Rattle.arti_ground.specs.Moments.{passes_map, passes_then}
 use Rattle.arti_journal.specs.Journal.{IsBody, opened, StandsFor, HoldsJournal, IsBefore, IsAfter, Appending, Appended}
 use Rattle.arti_journal.specs.Parts.{framed}
 use Rattle.arti_journal.proofs.Bytes.{torn_behind, written_behind, torn_gate, written_gate, stands_either, stands_open, length-opened}

@@ -2,7 +2,7 @@
 use Rattle.std.proofs.Common.{refl, ◌≡◌, ◌≢◌, ℕ, ◌≤◌, List, [], ◌∷◌, ◌++◌, length, take, drop, sym, ◌∙◌, ap, subst, arith}
 use Rattle.std.proofs.lemmas.List.{length-take}
 use Rattle.arti_ground.specs.State.{Bytes, State, Holds, Cut, In, Follows, IsDurable, Passes, DiskTime, Writing}
-use Rattle.arti_ground.proofs.Moments.{passes_map, passes_then}
+use Rattle.arti_ground.specs.Moments.{passes_map, passes_then}
 use Rattle.std.proofs.lemmas.List.Elements.{All-nil}
 use Rattle.arti_journal.specs.Journal.{IsBody, header, StandsFor, HoldsJournal}
 use Rattle.arti_journal.specs.Parts.{IsUnmade, Making}

@@ -1,7 +1,7 @@
 -- What a crash leaves while a journal is opened.
 use Rattle.std.proofs.Common.{◌≡◌, ℕ, ◌≤◌, length, sym, ◌∙◌, ap, subst, arith, inl, ◌⊎◌, ⊎_elim, refl}
-use Rattle.arti_ground.specs.State.{Bytes, State, IsDurable, Passes, IsSound, SinceSync}
-use Rattle.arti_ground.proofs.Moments.{passes_map, since_here}
+use Rattle.arti_ground.specs.State.{Bytes, State, IsDurable, Passes, OnlyReads, IsSound, SinceSync}
+use Rattle.arti_ground.specs.Moments.{passes_map, since_here}
 use Rattle.arti_journal.specs.Journal.{Opening}
 
 -- a sync leaves what reads give and what was told
@@ -19,12 +19,12 @@ opening_moments old mid new file files told passes = passes_map mid new (Opening
 pub not_yet : (s : State) (file : ℕ) → Opening s file s.files s.told
 not_yet s file = record { told = refl; others = λ f ne. refl; here = inl refl }
 
--- the moments since the sync
-pub opening_since : (old mid new : State) (file : ℕ) → old.moment ≤ mid.moment → IsSound mid → IsDurable mid → mid.files ≡ old.files → mid.told ≡ old.told → Passes mid new (Opening mid file) → SinceSync old new (Opening old file)
-opening_since old mid new file after sound durable files told passes =
-    since_here old mid new (Opening old file) after sound
-    (λ c left. subst (λ (b : Bytes). Opening old file b mid.told) (sym (durable c left)) (opening_from old mid file mid.files mid.told files told (not_yet mid file)))
-    (opening_moments old mid new file files told passes)
+-- the moments since the sync, and those before it
+pub opening_since : (old mid new : State) (file : ℕ) → IsSound old → OnlyReads old mid → IsSound mid → IsDurable mid → Passes mid new (Opening mid file) → SinceSync old new (Opening old file)
+opening_since old mid new file first reads sound durable passes =
+    since_here old mid new (Opening old file) first reads sound
+    (λ c left. subst (λ (b : Bytes). Opening old file b mid.told) (sym (durable c left)) (opening_from old mid file mid.files mid.told reads.disk.files reads.told (not_yet mid file)))
+    (opening_moments old mid new file reads.disk.files reads.told passes)
 
 -- what reads give at the end of them
 pub opening_now : (old mid new : State) (file : ℕ) → IsSound mid → IsSound new → IsDurable mid → mid.files ≡ old.files → mid.told ≡ old.told → Passes mid new (Opening mid file) → Opening old file new.files new.told

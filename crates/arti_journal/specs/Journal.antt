@@ -4,10 +4,14 @@ use Rattle.std.specs.Int.{w32, to_be_bytes}
 use Rattle.std.specs.declared.alloc.Global.{Global}
 use Rattle.arti_ground.specs.State.{Bytes, State, IsDurable}
 
+-- the bytes of the greatest body
+abbrev pub most_body : ℕ
+most_body = 67_108_864
+
 -- a body that a record may have
 pub record IsBody (body : List ℕ) : Type 0 where
   pub some : 1 ≤ length body
-  pub most : length body ≤ 67_108_864
+  pub most : length body ≤ most_body
 
 -- the first sixteen bytes of a journal whose making is done: its name, an open gate and seven zeros
 unfoldable pub header : List ℕ

@@ -2,7 +2,7 @@
 use Rattle.std.specs.Prelude.{◌≡◌, ◌≢◌, ℕ, ◌+◌, ◌-◌, ◌<◌, ◌≤◌, List, [], ◌∷◌, ◌++◌, length, take, drop, All}
 use Rattle.std.specs.Int.{w32, to_be_bytes}
 use Rattle.arti_ground.specs.State.{Bytes, State}
-use Rattle.arti_journal.specs.Journal.{IsBody, opened_record, records}
+use Rattle.arti_journal.specs.Journal.{IsBody, most_body, opened_record, records}
 
 -- a length, a body and a closed gate, as one write puts them behind a closed gate
 abbrev pub framed : List ℕ → List ℕ
@@ -37,7 +37,7 @@ pub record Making (start : State) (file : ℕ) (c w : Bytes) : Type 0 where
 
 -- a body may have this length, and so many bytes hold its record and the next gate
 abbrev pub HasRoom : ℕ → ℕ → Type 0
-HasRoom len rest = (1 ≤ len) × (len ≤ 67_108_864) × (len + 6 ≤ rest)
+HasRoom len rest = (1 ≤ len) × (len ≤ most_body) × (len + 6 ≤ rest)
 
 -- what is held of a file: the place of its first byte, and the bytes from there on
 pub record Seen : Type 0 where

@@ -1,6 +1,6 @@
 // A body as one write puts it behind a closed gate.
 ghost use Rattle.std.specs.Prelude.{◌≡◌, ◌↔◌, ◌+◌, ◌<◌, ◌≤◌, length, IfOk, IsErrOf};
-ghost use Rattle.arti_journal.specs.Journal.{IsBody};
+ghost use Rattle.arti_journal.specs.Journal.{IsBody, most_body};
 ghost use Rattle.arti_journal.specs.Parts.{framed};
 
 use crate::FrameFault;
@@ -8,7 +8,7 @@ use std::alloc::Global;
 use std::marker::Model;
 
 /// The most bytes that a body may have.
-const MOST: usize = 67_108_864;
+pub(crate) const MOST_BODY: u32 = 67_108_864;
 
 /// A body with its length before it and a closed gate behind it. A contract sees the body.
 #[derive(Drop)]
@@ -33,7 +33,7 @@ impl Framed {
     /// The length of the body.
     pub(crate) fn len(&self) -> u64
         ensures length { result ≡ length self.now }
-        ensures most { result ≤ 67_108_864 }
+        ensures most { result ≤ most_body }
     {
         self.len
     }
@@ -51,12 +51,12 @@ impl Framed {
 pub fn frame(alloc: Global, body: Vec<u8>) -> Result<Framed, FrameFault>
     ensures body { IfOk result (λ f. f ≡ body.items) }
     ensures empty { IsErrOf result FrameFault.Empty ↔ (length body.items ≡ 0) }
-    ensures too_long { IsErrOf result FrameFault.TooLong ↔ (67_108_864 < length body.items) }
+    ensures too_long { IsErrOf result FrameFault.TooLong ↔ (most_body < length body.items) }
 {
     if body.is_empty() {
         return Err(FrameFault::Empty);
     }
-    if body.len() > MOST {
+    if body.len() > MOST_BODY as usize {
         return Err(FrameFault::TooLong);
     }
     let len = body.len() as u32;

@@ -12,6 +12,3 @@ mod window;
 pub use fault::{AppendFault, FrameFault, JournalFault};
 pub use framed::{Framed, frame};
 pub use journal::{Journal, one_list_of_bodies};
-
-#[cfg(test)]
-mod tests;

@@ -6,6 +6,7 @@ ghost use Rattle.arti_journal.specs.Journal.{StandsFor, header, opened, bodies_o
 ghost use Rattle.arti_journal.specs.Parts.{Begins, Follow, HasRoom, Shows};
 
 use crate::JournalFault;
+use crate::framed::MOST_BODY;
 use crate::window::Window;
 use arti_ground::Ground;
 use std::alloc::{AllocError, Global};
@@ -224,5 +225,5 @@ fn body_length(head: [u8; 5]) -> u32
 fn has_room(len: u32, rest: u64) -> bool
     ensures { IsTrue result ↔ HasRoom len rest }
 {
-    len >= 1 && len <= 67_108_864 && u64::from(len) + 6 <= rest
+    len >= 1 && len <= MOST_BODY && u64::from(len) + 6 <= rest
 }

@@ -1,7 +1,7 @@
 use Rattle.std.proofs.Common.{rules, ◌≡◌, ◌+◌, ◌≤◌, length, take, drop, sym, ◌∙◌, arith}
 use Rattle.std.proofs.lemmas.Bool.{false≢true}
 use Rattle.std.proofs.lemmas.List.{length-take-le}
-use Rattle.arti_ground.proofs.Moments.{reads_then}
+use Rattle.arti_ground.specs.Moments.{reads_then}
 use Rattle.arti_blobs.proofs.Blocks.{same_blocks, same_more, block_of}
 use Rattle.arti_blobs.proofs.comparing.same_bytes.Goals as goal
 

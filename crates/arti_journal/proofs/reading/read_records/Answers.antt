@@ -1,7 +1,7 @@
 use Rattle.std.proofs.Common.{rules, ◌≡◌, ◌++◌, ◌∷◌, [], ◌+◌, ℕ, List, length, drop, subst, sym, ap, ◌∙◌, arith}
 use Rattle.std.proofs.lemmas.Result.{err_from_is_err_and}
 use Rattle.arti_ground.specs.State.{Bytes}
-use Rattle.arti_ground.proofs.Moments.{reads_then}
+use Rattle.arti_ground.specs.Moments.{reads_then}
 use Rattle.arti_journal.specs.Journal.{bodies_of}
 use Rattle.arti_journal.specs.Parts.{Begins, Follow, Shows}
 use Rattle.arti_journal.proofs.Progress.{IsRead, one_read, behind_header}

@@ -2,7 +2,7 @@ use Rattle.std.proofs.Common.{rules, ◌≡◌, ◌+◌, ◌-◌, ◌≤◌, ◌
 use Rattle.std.proofs.lemmas.List.{length-take-le}
 use borrow.Rule.Slice.PartMut.{post_of}
 use Rattle.arti_ground.specs.State.{Bytes}
-use Rattle.arti_ground.proofs.Moments.{reads_then}
+use Rattle.arti_ground.specs.Moments.{reads_then}
 use Rattle.arti_journal.specs.Parts.{Shows, IsPiece}
 use Rattle.arti_journal.proofs.Pieces.{more_read_in}
 use Rattle.arti_journal.proofs.window.Window.read.Goals as goal

@@ -1,6 +1,6 @@
 // Journals over grounds in memory.
-use super::*;
 use arti_ground::{FaultyGround, Ground, MemoryGround};
+use arti_journal::{AppendFault, Journal, JournalFault, frame};
 use std::alloc::Global;
 use std::test::Fail;
 

@@ -1,5 +1,8 @@
 // Each fake once, by what it gives.
-use super::*;
+use arti_ground::{
+    Clock, Failed, FaultyGround, FetchFault, Fetched, Ground, ListClock, ListUpstream,
+    MemoryGround, MemorySource, RemoteEntry, Source, Upstream,
+};
 use arti_rows::{Moment, Seq, Text};
 use std::alloc::{AllocError, Global};
 use std::test::Fail;
