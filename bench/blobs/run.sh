@@ -10,17 +10,15 @@ top=$(cd "$(dirname "$0")/../.." && pwd)
 copy=$(mktemp -d)
 trap 'rm -rf "$copy"' EXIT
 mkdir "$copy/crates"
-for crate in arti_rows arti_ground arti_blobs; do
+for crate in arti_rows arti_ground arti_blobs arti_host; do
     cp -r "$top/crates/$crate" "$copy/crates/$crate"
     rm -rf "$copy/crates/$crate/must-fail"
 done
-grep -E '^(arti_rows|arti_ground|arti_blobs):' "$top/crates.txt" > "$copy/crates.txt"
-echo 'arti_blobs_times: arti_blobs arti_ground' >> "$copy/crates.txt"
+grep -E '^(arti_rows|arti_ground|arti_blobs|arti_host):' "$top/crates.txt" > "$copy/crates.txt"
+echo 'arti_blobs_times: arti_blobs arti_ground arti_host' >> "$copy/crates.txt"
 times="$copy/crates/arti_blobs_times"
-mkdir -p "$times/src" "$times/proofs/add" "$times/proofs/add_repeated" "$times/proofs/add_numbers" "$times/proofs/real_file/read_from"
+mkdir -p "$times/src" "$times/proofs/add" "$times/proofs/add_repeated" "$times/proofs/add_numbers"
 touch "$times/proofs/Lib.antt"
-cp "$top/crates/arti_main/src/real_file.rt" "$top/crates/arti_main/src/real_ground.rt" "$times/src"
-sed 's/arti_main/arti_blobs_times/' "$top/crates/arti_main/proofs/real_file/read_from/Invariants.antt" > "$times/proofs/real_file/read_from/Invariants.antt"
 cat > "$times/src/main.rt" <<'PROGRAM'
 //! Times the staging of contents.
 #![tactic(auto)]
@@ -29,12 +27,9 @@ ghost use Rattle.std.specs.Prelude.{◌≡◌, ◌+◌, None, IfOk};
 ghost use Rattle.arti_ground.specs.State.{State};
 ghost use Rattle.arti_blobs.specs.Contents.{end_of, staged_length, HoldsContents};
 
-mod real_file;
-mod real_ground;
-
-use crate::real_ground::RealGround;
 use arti_blobs::Blobs;
 use arti_ground::{Ground, MemoryGround};
+use arti_host::RealGround;
 use std::alloc::{AllocError, Global};
 use std::io;
 use std::time::Instant;

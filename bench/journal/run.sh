@@ -10,27 +10,19 @@ copy=$(mktemp -d)
 folder=$(mktemp -d -p "${1:-${TMPDIR:-/tmp}}")
 trap 'rm -rf "$copy" "$folder"' EXIT
 mkdir "$copy/crates"
-for crate in arti_rows arti_ground arti_journal; do
+for crate in arti_rows arti_ground arti_journal arti_host; do
     cp -r "$top/crates/$crate" "$copy/crates/$crate"
     rm -rf "$copy/crates/$crate/must-fail"
     grep "^$crate:" "$top/crates.txt" >> "$copy/crates.txt"
 done
-echo 'arti_journal_times: arti_ground arti_journal' >> "$copy/crates.txt"
+echo 'arti_journal_times: arti_ground arti_journal arti_host' >> "$copy/crates.txt"
 times="$copy/crates/arti_journal_times"
 mkdir -p "$times/src"
-cp "$top/crates/arti_main/src/real_file.rt" "$top/crates/arti_main/src/real_ground.rt" "$times/src"
-mkdir -p "$times/proofs/real_file"
-sed 's/arti_main/arti_journal_times/' "$top/crates/arti_main/proofs/real_file/read_from/Invariants.antt" > "$copy/invariants"
-mkdir -p "$times/proofs/real_file/read_from"
-mv "$copy/invariants" "$times/proofs/real_file/read_from/Invariants.antt"
 cat > "$times/src/main.rt" <<'PROGRAM'
 //! Times appends to a journal.
 #![tactic(auto)]
 
-mod real_file;
-mod real_ground;
-
-use crate::real_ground::RealGround;
+use arti_host::RealGround;
 use arti_journal::{Framed, Journal, frame};
 use std::alloc::Global;
 use std::io;
