@@ -3,7 +3,7 @@ ghost use Rattle.std.specs.Prelude.{◌≡◌, ◌+◌, ◌-◌, ◌<◌, ◌≤
 ghost use Rattle.arti_aql_lex.specs.Escape.{hex_digit, hex_at, unit_at, byte_at, short_escape, pair_at, unicode_at, escape_at};
 
 /// Why a backslash begins no escape.
-#[derive(Clone, Copy, Debug, PartialEq, Eq)]
+#[derive(Drop)]
 pub enum Spoiled {
     /// The text ends before the escape does.
     Cut,

@@ -9,6 +9,3 @@ mod value;
 
 pub use lexer::Lexer;
 pub use token::{LexFault, Token, TokenKind};
-
-#[cfg(test)]
-mod tests;

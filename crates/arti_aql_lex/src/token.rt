@@ -3,7 +3,7 @@
 use thiserror::Error;
 
 /// What a token is.
-#[derive(Clone, Copy, Debug, PartialEq, Eq)]
+#[derive(Clone, Copy, PartialEq, Eq)]
 pub enum TokenKind {
     /// A letter or `_`, then letters, digits and `_`.
     Name,
@@ -25,7 +25,7 @@ pub enum TokenKind {
 }
 
 /// A token and the bytes that it takes: those from `start` on, before `end`. Places are byte offsets in the text.
-#[derive(Clone, Copy, Debug, PartialEq, Eq)]
+#[derive(Clone, Copy)]
 pub struct Token {
     pub kind: TokenKind,
     pub start: u32,

@@ -1,6 +1,7 @@
 -- One reading: tokens that are read so are read in no other way, and aren't refused.
 use Rattle.std.proofs.Common.{◌≡◌, ◌≢◌, ℕ, List, [], ◌∷◌, Bool, true, false, not, ◌||◌, Option, Some, None, is_some, refl, sym, ap, ◌∙◌, arith}
 use Rattle.std.proofs.lemmas.Bool.{false≢true}
+use Rattle.std.proofs.lemmas.Option.{none-some, same_Some}
 use Rattle.arti_aql_lex.specs.Lexed.{Lexed}
 use Rattle.arti_aql_lex.specs.declared.token.TokenKind.{TokenKind}
 use Rattle.arti_aql_lex.specs.declared.token.TokenKind.TheVariants.{Words, Dot, Open, Close, ObjectOpen, ObjectClose, ListClose, Comma, End}
@@ -19,17 +20,11 @@ use Rattle.arti_aql_parse.specs.declared.words.Group.{Group}
 use Rattle.arti_aql_parse.specs.declared.words.Suffix.{Suffix}
 use Rattle.arti_aql_parse.specs.declared.words.Suffix.TheVariants as suffix
 
-some_same : {A : Type 0} {x y : A} → Some x ≡ Some y → x ≡ y
-some_same h = cc
-
-none_some : {A : Type 0} {x : A} → Some x ≡ None → ⊥
-none_some h = cc
-
 marks_same : {k : TokenKind} {a a' b b' : Lexed} → a ≡ a' → Mark k a b → Mark k a' b' → b ≡ b'
 marks_same e m m' = m.rest ∙ ap tail e ∙ sym m'.rest
 
 marks_apart : {k l : TokenKind} {a a' b b' : Lexed} → k ≢ l → a ≡ a' → Mark k a b → Mark l a' b' → ⊥
-marks_apart differ e m m' = differ (some_same (sym m.here ∙ ap kind_at e ∙ m'.here))
+marks_apart differ e m m' = differ (same_Some _ _ (sym m.here ∙ ap kind_at e ∙ m'.here))
 
 brace_comma : ObjectClose ≢ Comma
 brace_comma q = cc
@@ -59,15 +54,15 @@ texts_not differ e (more_texts t m r) (no.later_text u k s) = texts_not differ (
 
 test_one : {a a' b b' : Lexed} {x x' : Test} → a ≡ a' → ReadsTest a x b → ReadsTest a' x' b' → (x ≡ x') × (b ≡ b')
 test_one {a} {a'} {b} {b'} {x} {x'} e t u =
-    let op : x.op ≡ x'.op = some_same (sym t.operator ∙ ap (λ v. word.op_of (first_value v)) e ∙ u.operator) in
-    let value : x.value ≡ x'.value = some_same (sym t.literal ∙ ap (λ v. literal_at (tail (tail v))) e ∙ u.literal) in
+    let op : x.op ≡ x'.op = same_Some _ _ (sym t.operator ∙ ap (λ v. word.op_of (first_value v)) e ∙ u.operator) in
+    let value : x.value ≡ x'.value = same_Some _ _ (sym t.literal ∙ ap (λ v. literal_at (tail (tail v))) e ∙ u.literal) in
     (λ j. record { op = op j; value = value j }, t.rest ∙ ap (λ v. tail (tail (tail v))) e ∙ sym u.rest)
 
 test_not : {a a' b : Lexed} {x : Test} {f : ReadFault} → a ≡ a' → ReadsTest a x b → RefusesTest a' f → ⊥
 test_not e t (no.no_words other is) = other (ap kind_at (sym e) ∙ t.here)
-test_not e t (no.no_operator here none is) = none_some (sym t.operator ∙ ap (λ v. word.op_of (first_value v)) e ∙ none)
+test_not e t (no.no_operator here none is) = none-some _ (sym (sym t.operator ∙ ap (λ v. word.op_of (first_value v)) e ∙ none))
 test_not e t (no.no_colon here op other is) = other (ap (λ v. kind_at (tail v)) (sym e) ∙ t.colon)
-test_not e t (no.no_literal here op colon none is) = none_some (sym t.literal ∙ ap (λ v. literal_at (tail (tail v))) e ∙ none)
+test_not e t (no.no_literal here op colon none is) = none-some _ (sym (sym t.literal ∙ ap (λ v. literal_at (tail (tail v))) e ∙ none))
 
 tests_one : {a a' b b' : Lexed} {xs xs' : List Test} → a ≡ a' → ReadsTests a xs b → ReadsTests a' xs' b' → (xs ≡ xs') × (b ≡ b')
 tests_one e (last_test t m) (last_test u k) = let f = test_one e t u in (ap (λ x. x ∷ []) f.0, marks_same f.1 m k)
@@ -89,7 +84,7 @@ key_one e k l = (k.value ∙ ap first_value e ∙ sym l.value, k.rest ∙ ap (λ
 no_key_is : (g : Option Group) (d : Bool) → g ≡ None → d ≡ true → (is_some g || not d) ≡ true → ⊥
 no_key_is None true is dollar fits = false≢true fits
 no_key_is None false is dollar fits = false≢true dollar
-no_key_is (Some x) d is dollar fits = none_some is
+no_key_is (Some x) d is dollar fits = none-some _ (sym is)
 
 key_not : {a a' b : Lexed} {x : List ℕ} {f : ReadFault} → word.is_key x ≡ true → a ≡ a' → ReadsKey a x b → RefusesKey a' f → ⊥
 key_not fits e k (no.no_key other is) = other (ap kind_at (sym e) ∙ k.here)
@@ -104,13 +99,13 @@ field_fits : {x : List ℕ} → IsField x → word.is_key x ≡ true
 field_fits {x} f = ap (λ g. is_some g || not (word.begins_with_dollar x)) f.plain ∙ ap (λ d. not d) f.other
 
 operand_one : {n n' : ℕ} {a a' b b' : Lexed} {xs xs' : List Test} → a ≡ a' → ReadsOperand n a xs b → ReadsOperand n' a' xs' b' → (xs ≡ xs') × (b ≡ b')
-operand_one e (equals other literal rest) (equals other' literal' rest') = (ap (λ x. record { op = Eq; value = x } ∷ []) (some_same (sym literal ∙ ap literal_at e ∙ literal')), rest ∙ ap tail e ∙ sym rest')
+operand_one e (equals other literal rest) (equals other' literal' rest') = (ap (λ x. record { op = Eq; value = x } ∷ []) (same_Some _ _ (sym literal ∙ ap literal_at e ∙ literal')), rest ∙ ap tail e ∙ sym rest')
 operand_one e (equals other literal rest) (compares some m r) = absurd (other (ap kind_at e ∙ m.here))
 operand_one e (compares some m r) (equals other literal rest) = absurd (other (ap kind_at (sym e) ∙ m.here))
 operand_one e (compares some m r) (compares some' m' r') = tests_one (marks_same e m m') r r'
 
 operand_not : {n n' : ℕ} {a a' b : Lexed} {xs : List Test} {f : ReadFault} → n ≡ n' → a ≡ a' → ReadsOperand n a xs b → RefusesOperand n' a' f → ⊥
-operand_not l e (equals other literal rest) (no.no_operand other' none is) = none_some (sym literal ∙ ap literal_at e ∙ none)
+operand_not l e (equals other literal rest) (no.no_operand other' none is) = none-some _ (sym (sym literal ∙ ap literal_at e ∙ none))
 operand_not l e (equals other literal rest) (no.deep_tests z here is) = other (ap kind_at e ∙ here)
 operand_not l e (equals other literal rest) (no.in_tests some m r) = other (ap kind_at e ∙ m.here)
 operand_not l e (compares some m r) (no.no_operand other none is) = other (ap kind_at (sym e) ∙ m.here)
@@ -152,11 +147,11 @@ mutual
   member_one : {n n' : ℕ} {a a' b b' : Lexed} {x x' : PlainMember} → n ≡ n' → a ≡ a' → ReadsMember n a x b → ReadsMember n' a' x' b' → (x ≡ x') × (b ≡ b')
   member_one l e (list k join is m r) (list k' join' is' m' r') =
       let f = key_one e k k' in
-      let g = some_same (sym join ∙ ap word.group_of f.0 ∙ join') in
+      let g = same_Some _ _ (sym join ∙ ap word.group_of f.0 ∙ join') in
       let i = objects_one (omega (arith, l, is, is')) (marks_same f.1 m m') r r' bracket_comma in
       (λ j. group (g j) (i.0 j), i.1)
-  member_one l e (list k join is m r) (field k' f' o') = absurd (none_some (sym join ∙ ap word.group_of (key_one e k k').0 ∙ f'.plain))
-  member_one l e (field k f o) (list k' join' is' m' r') = absurd (none_some (sym join' ∙ ap word.group_of (sym (key_one e k k').0) ∙ f.plain))
+  member_one l e (list k join is m r) (field k' f' o') = absurd (none-some _ (sym (sym join ∙ ap word.group_of (key_one e k k').0 ∙ f'.plain)))
+  member_one l e (field k f o) (list k' join' is' m' r') = absurd (none-some _ (sym (sym join' ∙ ap word.group_of (sym (key_one e k k').0) ∙ f.plain)))
   member_one l e (field k f o) (field k' f' o') = let g = key_one e k k' in let i = operand_one g.1 o o' in (λ j. tests (g.0 j) (i.0 j), i.1)
 
   objects_one : {n n' : ℕ} {a a' b b' : Lexed} {close : TokenKind} {x x' : Objects} → n ≡ n' → a ≡ a' → ReadsObjects n close a x b → ReadsObjects n' close a' x' b' → close ≢ Comma → (x ≡ x') × (b ≡ b')
@@ -187,11 +182,11 @@ mutual
   member_not l e (list k join is m r) (no.no_list k' join' other is') = other (ap kind_at (sym (key_one e k k').1) ∙ m.here)
   member_not l e (list k join is m r) (no.deep_list k' join' z here is') = omega (arith, is, l, z)
   member_not l e (list k join is m r) (no.in_list k' join' is' m' s) = objects_not (omega (arith, l, is, is')) (marks_same (key_one e k k').1 m m') r s bracket_comma
-  member_not l e (list k join is m r) (no.in_operand k' f s) = none_some (sym join ∙ ap word.group_of (key_one e k k').0 ∙ f.plain)
+  member_not l e (list k join is m r) (no.in_operand k' f s) = none-some _ (sym (sym join ∙ ap word.group_of (key_one e k k').0 ∙ f.plain))
   member_not l e (field k f o) (no.not_a_key g) = key_not (field_fits f) e k g
-  member_not l e (field k f o) (no.no_list k' join' other is') = none_some (sym join' ∙ ap word.group_of (sym (key_one e k k').0) ∙ f.plain)
-  member_not l e (field k f o) (no.deep_list k' join' z here is') = none_some (sym join' ∙ ap word.group_of (sym (key_one e k k').0) ∙ f.plain)
-  member_not l e (field k f o) (no.in_list k' join' is' m' s) = none_some (sym join' ∙ ap word.group_of (sym (key_one e k k').0) ∙ f.plain)
+  member_not l e (field k f o) (no.no_list k' join' other is') = none-some _ (sym (sym join' ∙ ap word.group_of (sym (key_one e k k').0) ∙ f.plain))
+  member_not l e (field k f o) (no.deep_list k' join' z here is') = none-some _ (sym (sym join' ∙ ap word.group_of (sym (key_one e k k').0) ∙ f.plain))
+  member_not l e (field k f o) (no.in_list k' join' is' m' s) = none-some _ (sym (sym join' ∙ ap word.group_of (sym (key_one e k k').0) ∙ f.plain))
   member_not l e (field k f o) (no.in_operand k' f' s) = operand_not l (key_one e k k').1 o s
 
   objects_not : {n n' : ℕ} {a a' b : Lexed} {close : TokenKind} {x : Objects} {f : ReadFault} → n ≡ n' → a ≡ a' → ReadsObjects n close a x b → RefusesObjects n' close a' f → close ≢ Comma → ⊥
@@ -203,12 +198,12 @@ mutual
   objects_not l e (more_objects x m r) (no.later_object y k s) differ = objects_not l (marks_same (object_one l e x y).1 m k) r s differ
 
 order_one : {a a' b b' : Lexed} {x x' : Bool} → a ≡ a' → ReadsOrder a x b → ReadsOrder a' x' b' → (x ≡ x') × (b ≡ b')
-order_one e o p = (some_same (sym o.order ∙ ap (λ v. word.order_of (first_value (tail v))) e ∙ p.order), o.rest ∙ ap (λ v. tail (tail (tail (tail v)))) e ∙ sym p.rest)
+order_one e o p = (same_Some _ _ (sym o.order ∙ ap (λ v. word.order_of (first_value (tail v))) e ∙ p.order), o.rest ∙ ap (λ v. tail (tail (tail (tail v)))) e ∙ sym p.rest)
 
 order_not : {a a' b : Lexed} {x : Bool} {f : ReadFault} → a ≡ a' → ReadsOrder a x b → RefusesOrder a' f → ⊥
 order_not e o (no.no_brace other is) = other (ap kind_at (sym e) ∙ o.brace)
 order_not e o (no.no_order here other is) = other (ap (λ v. kind_at (tail v)) (sym e) ∙ o.words)
-order_not e o (no.bad_order here words none is) = none_some (sym o.order ∙ ap (λ v. word.order_of (first_value (tail v))) e ∙ none)
+order_not e o (no.bad_order here words none is) = none-some _ (sym (sym o.order ∙ ap (λ v. word.order_of (first_value (tail v))) e ∙ none))
 order_not e o (no.no_order_colon here words order other is) = other (ap (λ v. kind_at (tail (tail v))) (sym e) ∙ o.colon)
 order_not e o (no.no_bracket here words order colon other is) = other (ap (λ v. kind_at (tail (tail (tail v)))) (sym e) ∙ o.bracket)
 
@@ -225,29 +220,29 @@ sort_not e s (no.no_end_brace o t other is) = let i = texts_one bracket_comma (o
 sort_not e s (no.no_sort_end o t m other is) = let i = texts_one bracket_comma (order_one e s.order o).1 s.texts t in other (ap kind_at (sym (marks_same i.1 s.end_brace m)) ∙ s.end.here)
 
 natural_one : {a a' b b' : Lexed} {x x' : ℕ} → a ≡ a' → ReadsNatural a x b → ReadsNatural a' x' b' → (x ≡ x') × (b ≡ b')
-natural_one e s t = (some_same (sym s.value ∙ ap (λ v. word.natural_of (first_value v)) e ∙ t.value), s.rest ∙ ap (λ v. tail (tail v)) e ∙ sym t.rest)
+natural_one e s t = (same_Some _ _ (sym s.value ∙ ap (λ v. word.natural_of (first_value v)) e ∙ t.value), s.rest ∙ ap (λ v. tail (tail v)) e ∙ sym t.rest)
 
 natural_not : {a a' b : Lexed} {x : ℕ} {f : ReadFault} → a ≡ a' → ReadsNatural a x b → RefusesNatural a' f → ⊥
 natural_not e s (no.no_number other is) = other (ap kind_at (sym e) ∙ s.here)
-natural_not e s (no.negative here none is) = none_some (sym s.value ∙ ap (λ v. word.natural_of (first_value v)) e ∙ none)
+natural_not e s (no.negative here none is) = none-some _ (sym (sym s.value ∙ ap (λ v. word.natural_of (first_value v)) e ∙ none))
 natural_not e s (no.no_number_end here value other is) = other (ap (λ v. kind_at (tail v)) (sym e) ∙ s.end)
 
 truth_one : {a a' b b' : Lexed} {x x' : Bool} → a ≡ a' → ReadsTruth a x b → ReadsTruth a' x' b' → (x ≡ x') × (b ≡ b')
-truth_one e s t = (some_same (sym s.value ∙ ap (λ v. word.truth_of (first_value v)) e ∙ t.value), s.rest ∙ ap (λ v. tail (tail v)) e ∙ sym t.rest)
+truth_one e s t = (same_Some _ _ (sym s.value ∙ ap (λ v. word.truth_of (first_value v)) e ∙ t.value), s.rest ∙ ap (λ v. tail (tail v)) e ∙ sym t.rest)
 
 truth_not : {a a' b : Lexed} {x : Bool} {f : ReadFault} → a ≡ a' → ReadsTruth a x b → RefusesTruth a' f → ⊥
 truth_not e s (no.no_truth other is) = other (ap kind_at (sym e) ∙ s.here)
-truth_not e s (no.other_name here none is) = none_some (sym s.value ∙ ap (λ v. word.truth_of (first_value v)) e ∙ none)
+truth_not e s (no.other_name here none is) = none-some _ (sym (sym s.value ∙ ap (λ v. word.truth_of (first_value v)) e ∙ none))
 truth_not e s (no.no_truth_end here value other is) = other (ap (λ v. kind_at (tail v)) (sym e) ∙ s.end)
 
 name_one : {given given' : Suffixes} {a a' b b' : Lexed} {x x' : Suffix} → a ≡ a' → ReadsName given a x b → ReadsName given' a' x' b' → (x ≡ x') × (b ≡ b')
-name_one e s t = (some_same (sym s.name ∙ ap (λ v. word.suffix_of (first_value v)) e ∙ t.name), s.rest ∙ ap (λ v. tail (tail v)) e ∙ sym t.rest)
+name_one e s t = (same_Some _ _ (sym s.name ∙ ap (λ v. word.suffix_of (first_value v)) e ∙ t.name), s.rest ∙ ap (λ v. tail (tail v)) e ∙ sym t.rest)
 
 name_not : {given given' : Suffixes} {a a' b : Lexed} {x : Suffix} {f : ReadFault} → given ≡ given' → a ≡ a' → ReadsName given a x b → RefusesName given' a' f → ⊥
 name_not g e s (no.no_suffix other is) = other (ap kind_at (sym e) ∙ s.here)
-name_not g e s (no.no_such_suffix here none is) = none_some (sym s.name ∙ ap (λ v. word.suffix_of (first_value v)) e ∙ none)
+name_not g e s (no.no_such_suffix here none is) = none-some _ (sym (sym s.name ∙ ap (λ v. word.suffix_of (first_value v)) e ∙ none))
 name_not g e s (no.given_before here named old is) =
-    let same = some_same (sym s.name ∙ ap (λ v. word.suffix_of (first_value v)) e ∙ named) in
+    let same = same_Some _ _ (sym s.name ∙ ap (λ v. word.suffix_of (first_value v)) e ∙ named) in
     false≢true (sym old ∙ sym (λ j. is_fresh (g j) (same j)) ∙ s.fresh)
 name_not g e s (no.no_open here named fresh other is) = other (ap (λ v. kind_at (tail v)) (sym e) ∙ s.open_mark)
 

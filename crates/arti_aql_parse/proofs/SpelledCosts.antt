@@ -13,6 +13,7 @@ use Rattle.std.proofs.lemmas.List.Sums.{prefix_len-le-length}
 use Rattle.std.proofs.lemmas.Str.{encode_ascii, inside_one, length-encode, len_utf8_bounds}
 use Rattle.std.proofs.lemmas.Str.Parse.{digits_value_short}
 use Rattle.json.specs.Print.{escape_byte, escape_letter, escape, quoted}
+use Rattle.std.proofs.lemmas.Option.{none-some, same_Some}
 use Rattle.arti_aql_lex.specs.Escape.{◌>>=◌, unit_at, byte_at, pair_at, unicode_at, short_escape, short_at, escape_at, is_high_surrogate, is_low_surrogate, surrogate_pair}
 use Rattle.arti_aql_lex.specs.Lexed.{Lexed, finish, fault, token, begins, lexed}
 use Rattle.arti_aql_lex.specs.Literal.{piece_len, piece_text, piece_width, escape_len, literal_end, literal_text, spoiled_at}
@@ -27,7 +28,7 @@ use Rattle.arti_aql_lex.specs.declared.token.TokenKind.TheVariants.{Name, Words,
 use Rattle.arti_aql_parse.specs.Print.{has_escape}
 use Rattle.arti_aql_parse.specs.Words.{digits_value, number_of}
 use Rattle.arti_aql_parse.proofs.PrintTexts.{no_escape}
-use Rattle.arti_aql_parse.proofs.SpelledTokens.{case, err_ok, ok_same, some_same, none_some, own, few_digits, front_all, digits_are, is_mark, mark_is}
+use Rattle.arti_aql_parse.proofs.SpelledTokens.{case, err_ok, ok_same, own, few_digits, front_all, digits_are, is_mark, mark_is}
 
 -- how many bytes are printed for a token
 abbrev pub cost : TokenKind → List ℕ → ℕ
@@ -75,12 +76,6 @@ six c =
 abbrev Short : ℕ × ℕ → Type 0
 Short e = (length (escape (encode_utf8 e.0)) ≤ e.1) × (1 ≤ e.1)
 
-malformed_ok : {A : Type 0} (s : Spoiled) (x : A) → Err s ≡ Ok x → ⊥
-malformed_ok s x h = cc
-
-pair_same : (r : Result (ℕ × ℕ) Spoiled) (x y : ℕ × ℕ) → r ≡ Ok x → r ≡ Ok y → x ≡ y
-pair_same r x y h k = let same : Ok x ≡ Ok y = sym h ∙ k in cc
-
 -- a step that may fail, and what follows it
 steps : {A B E : Type 0} (r : Result A E) (f : A → Result B E) (y : B) (G : Type 0) → ((x : A) → r ≡ Ok x → f x ≡ Ok y → G) → (r >>= f) ≡ Ok y → G
 steps (Ok x) f y G g h = g x refl h
@@ -89,13 +84,13 @@ steps (Err s) f y G g h = absurd (let never : Err s ≡ Ok y = h in cc)
 -- a step that may be spoiled, and what follows it
 then : {A B : Type 0} (r : Result A Spoiled) (f : A → Result B Spoiled) (y : B) (G : Type 0) → ((x : A) → f x ≡ Ok y → G) → (r >>= f) ≡ Ok y → G
 then (Ok x) f y G g h = g x h
-then (Err s) f y G g h = absurd (malformed_ok s y h)
+then (Err s) f y G g h = absurd (err_ok s y h)
 
 two : (c : ℕ) → length (escape_byte c) ≤ 2 → c < 128 → length (escape (encode_utf8 c)) ≤ 2
 two c few low = subst (λ l. length (escape l) ≤ 2) (sym (encode_ascii c low)) (omega (arith, few, ap length (append-nil (escape_byte c))))
 
 short_by : (t : Bool) (d c : ℕ) (r : Option ℕ) → length (escape (encode_utf8 d)) ≤ 2 → (r ≡ Some c → length (escape (encode_utf8 c)) ≤ 2) → cond t (Some d) r ≡ Some c → length (escape (encode_utf8 c)) ≤ 2
-short_by true d c r here more h = subst (λ k. length (escape (encode_utf8 k)) ≤ 2) (some_same d c h) here
+short_by true d c r here more h = subst (λ k. length (escape (encode_utf8 k)) ≤ 2) (same_Some d c h) here
 short_by false d c r here more h = more h
 
 letter_two : (c d : ℕ) → c ≡ d → d < 128 → length (escape_byte d) ≤ 2 → length (escape (encode_utf8 c)) ≤ 2
@@ -112,13 +107,13 @@ short_is : (l c : ℕ) → short_escape l ≡ Some c → length (escape (encode_
 unfolding short_escape escape_byte
 short_is l c h =
     case ((l == 34) || ((l == 92) || (l == 47))) _ _ (Some c) (length (escape (encode_utf8 c)) ≤ 2)
-    (λ t e. subst (λ k. length (escape (encode_utf8 k)) ≤ 2) (some_same l c e) (self_short l (l == 34) (l == 92) (l == 47) refl refl refl t))
-    (λ t. short_by (l == 98) 8 c _ (two 8 (omega arith) (omega arith)) (short_by (l == 102) 12 c _ (two 12 (omega arith) (omega arith)) (short_by (l == 110) 10 c _ (two 10 (omega arith) (omega arith)) (short_by (l == 114) 13 c _ (two 13 (omega arith) (omega arith)) (short_by (l == 116) 9 c _ (two 9 (omega arith) (omega arith)) (λ e. absurd (none_some c e)))))))
+    (λ t e. subst (λ k. length (escape (encode_utf8 k)) ≤ 2) (same_Some l c e) (self_short l (l == 34) (l == 92) (l == 47) refl refl refl t))
+    (λ t. short_by (l == 98) 8 c _ (two 8 (omega arith) (omega arith)) (short_by (l == 102) 12 c _ (two 12 (omega arith) (omega arith)) (short_by (l == 110) 10 c _ (two 10 (omega arith) (omega arith)) (short_by (l == 114) 13 c _ (two 13 (omega arith) (omega arith)) (short_by (l == 116) 9 c _ (two 9 (omega arith) (omega arith)) (λ e. absurd (none-some c e)))))))
     h
 
 short_at_is : (o : Option ℕ) (e : ℕ × ℕ) → ((c : ℕ) → o ≡ Some c → length (escape (encode_utf8 c)) ≤ 2) → short_at o ≡ Ok e → Short e
-short_at_is (Some c) e two h = subst Short (pair_same (short_at (Some c)) (c, 2) e refl h) (two c refl, omega arith)
-short_at_is None e two h = absurd (malformed_ok Malformed e h)
+short_at_is (Some c) e two h = subst Short (ok_same (short_at (Some c)) (c, 2) e refl h) (two c refl, omega arith)
+short_at_is None e two h = absurd (err_ok Malformed e h)
 
 long_is : (c n : ℕ) → 6 ≤ n → Short (c, n)
 long_is c n le = (omega (arith, six c), omega arith)
@@ -127,18 +122,18 @@ pair_is : (rest : List ℕ) (high : ℕ) (e : ℕ × ℕ) → pair_at rest high 
 unfolding pair_at
 pair_is rest high e h =
     then (byte_at rest 6 92) _ e (Short e) (λ a r. then (byte_at rest 7 117) _ e (Short e) (λ b q. then (unit_at rest 8) _ e (Short e)
-    (λ low s. case (is_low_surrogate low) _ _ (Ok e) (Short e) (λ t u. subst Short (pair_same (Ok (surrogate_pair high low, 12)) (surrogate_pair high low, 12) e refl u) (long_is (surrogate_pair high low) 12 (omega arith))) (λ t u. absurd (malformed_ok Malformed e u)) s) q) r) h
+    (λ low s. case (is_low_surrogate low) _ _ (Ok e) (Short e) (λ t u. subst Short (ok_same (Ok (surrogate_pair high low, 12)) (surrogate_pair high low, 12) e refl u) (long_is (surrogate_pair high low) 12 (omega arith))) (λ t u. absurd (err_ok Malformed e u)) s) q) r) h
 
 unicode_is : (rest : List ℕ) (e : ℕ × ℕ) → unicode_at rest ≡ Ok e → Short e
 unfolding unicode_at
 unicode_is rest e h =
     then (unit_at rest 2) _ e (Short e) (λ unit r. case (is_high_surrogate unit) _ _ (Ok e) (Short e) (λ t q. pair_is rest unit e q)
-    (λ t q. case (is_low_surrogate unit) _ _ (Ok e) (Short e) (λ t s. absurd (malformed_ok Malformed e s)) (λ t s. subst Short (pair_same (Ok (unit, 6)) (unit, 6) e refl s) (long_is unit 6 (omega arith))) q) r) h
+    (λ t q. case (is_low_surrogate unit) _ _ (Ok e) (Short e) (λ t s. absurd (err_ok Malformed e s)) (λ t s. subst Short (ok_same (Ok (unit, 6)) (unit, 6) e refl s) (long_is unit 6 (omega arith))) q) r) h
 
 escape_is : (rest : List ℕ) (e : ℕ × ℕ) → escape_at rest ≡ Ok e → Short e
 unfolding escape_at
 escape_is rest e h =
-    case (nat_lt (length rest) 2) _ _ (Ok e) (Short e) (λ t r. absurd (malformed_ok Cut e r))
+    case (nat_lt (length rest) 2) _ _ (Ok e) (Short e) (λ t r. absurd (err_ok Cut e r))
     (λ t r. case (get_or rest 1 0 == 117) _ _ (Ok e) (Short e) (λ u q. unicode_is rest e q) (λ u q. short_at_is (short_escape (get_or rest 1 0)) e (λ c s. short_is (get_or rest 1 0) c s) q) r) h
 
 -- a piece of a text, which goes so far

@@ -2,6 +2,7 @@
 use Rattle.std.proofs.Common.{◌≡◌, ◌≢◌, ℕ, zero, suc, ◌+◌, ◌<◌, Bool, true, false, cond, List, [], ◌∷◌, Some, None, refl, sym, subst, arith}
 use Rattle.std.specs.Prelude.{IfSome}
 use Rattle.std.proofs.lemmas.Bool.{false≢true}
+use Rattle.std.proofs.lemmas.Option.{none-some, same_Some}
 use Rattle.arti_aql_lex.specs.Lexed.{Lexed, finish, fault, token}
 use Rattle.arti_aql_lex.specs.declared.token.TokenKind.{TokenKind}
 use Rattle.arti_aql_lex.specs.declared.token.TokenKind.TheVariants.{Name, Words, Number}
@@ -18,25 +19,19 @@ use Rattle.arti_aql_parse.specs.declared.query.Suffixes.{Suffixes}
 use Rattle.arti_aql_parse.specs.declared.words.Suffix.{Suffix}
 use Rattle.arti_aql_parse.proofs.SpelledTokens.{SoundToken, Sound, lexed_sound, sound_tail, sound_name, sound_natural}
 
-some_same : {A : Type 0} (x y : A) → Some x ≡ Some y → x ≡ y
-some_same x y h = cc
-
-none_some : {A : Type 0} (x : A) → None ≡ Some x → ⊥
-none_some x h = cc
-
 null_fits : (t : Bool) (x : Lit) → cond t (Some lit.Null) None ≡ Some x → FitsLiteral x
-null_fits true x h = subst FitsLiteral (some_same lit.Null x h) tt
-null_fits false x h = absurd (none_some x h)
+null_fits true x h = subst FitsLiteral (same_Some lit.Null x h) tt
+null_fits false x h = absurd (none-some x h)
 
 literal_kind : (kind : TokenKind) (value : List ℕ) (x : Lit) → SoundToken kind value → literal_of kind value ≡ Some x → FitsLiteral x
-literal_kind Words value x s h = subst FitsLiteral (some_same (lit.Words value) x h) tt
-literal_kind Number value x s h = subst FitsLiteral (some_same (lit.Number (number_of value)) x h) (s.number refl)
+literal_kind Words value x s h = subst FitsLiteral (same_Some (lit.Words value) x h) tt
+literal_kind Number value x s h = subst FitsLiteral (same_Some (lit.Number (number_of value)) x h) (s.number refl)
 literal_kind Name value x s h = null_fits (is_null value) x h
-literal_kind _ value x s h = absurd (none_some x h)
+literal_kind _ value x s h = absurd (none-some x h)
 
 literal_fits : (a : Lexed) (x : Lit) → Sound a → literal_at a ≡ Some x → FitsLiteral x
-literal_fits (finish at) x s h = absurd (none_some x h)
-literal_fits (fault f) x s h = absurd (none_some x h)
+literal_fits (finish at) x s h = absurd (none-some x h)
+literal_fits (fault f) x s h = absurd (none-some x h)
 literal_fits (token b e kind value rest) x s h = literal_kind kind value x s.0 h
 
 mark_sound : {k : TokenKind} {a b : Lexed} → Mark k a b → Sound a → Sound b

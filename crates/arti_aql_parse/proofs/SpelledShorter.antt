@@ -6,6 +6,7 @@ use Rattle.std.specs.Cmp.Lexicographic.{same_text}
 use Rattle.std.proofs.lemmas.Bool.{false≢true, eqb-true, ne_eqb}
 use Rattle.std.proofs.lemmas.List.{length-append}
 use Rattle.json.specs.Print.{escape_byte, quoted}
+use Rattle.std.proofs.lemmas.Option.{none-some, same_Some}
 use Rattle.arti_aql_lex.specs.Lexed.{Lexed, finish, fault, token}
 use Rattle.arti_aql_lex.specs.declared.token.TokenKind.{TokenKind}
 use Rattle.arti_aql_lex.specs.declared.token.TokenKind.TheVariants.{Name, Words, Number, Open, Close, ObjectOpen, ListOpen, Colon, End}
@@ -33,36 +34,30 @@ use Rattle.arti_aql_parse.proofs.SpelledTokens.{case, is_mark, lexed_sound}
 use Rattle.arti_aql_parse.proofs.SpelledFits.{head_fits, spelled_fits}
 use Rattle.arti_aql_parse.proofs.SpelledCosts.{cost, weight, mark_cost, lexed_weight}
 
-some_same : {A : Type 0} (x y : A) → Some x ≡ Some y → x ≡ y
-some_same x y h = cc
-
-none_some : {A : Type 0} (x : A) → None ≡ Some x → ⊥
-none_some x h = cc
-
 -- the first token's share
 front_weight : (a : Lexed) (k : TokenKind) → kind_at a ≡ Some k → weight a ≡ cost k (first_value a) + weight (tail a)
-front_weight (finish at) k h = subst (λ (j : TokenKind). 0 ≡ cost j [] + 0) (some_same End k h) refl
-front_weight (fault f) k h = absurd (none_some k h)
-front_weight (token b e kind value rest) k h = ap (λ j. cost j value + weight rest) (some_same kind k h)
+front_weight (finish at) k h = subst (λ (j : TokenKind). 0 ≡ cost j [] + 0) (same_Some End k h) refl
+front_weight (fault f) k h = absurd (none-some k h)
+front_weight (token b e kind value rest) k h = ap (λ j. cost j value + weight rest) (same_Some kind k h)
 
 mark_weight : {k : TokenKind} {a b : Lexed} → Mark k a b → is_mark k ≡ true → weight a ≡ 1 + weight b
 mark_weight {k} {a} m is = front_weight a k m.here ∙ ap (λ n. n + weight (tail a)) (mark_cost k (first_value a) is) ∙ ap (λ v. 1 + weight v) (sym m.rest)
 
 -- a text that has a meaning is the word of that meaning
 back : {A : Type 0} (v w : List ℕ) (name : A → List ℕ) (y x : A) (r : Option A) → name y ≡ w → (r ≡ Some x → v ≡ name x) → cond (is_text v w) (Some y) r ≡ Some x → v ≡ name x
-back v w name y x r is more h = case (is_text v w) (Some y) r (Some x) (v ≡ name x) (λ t e. same_text v w (sym t) ∙ sym is ∙ ap name (some_same y x e)) (λ t e. more e) h
+back v w name y x r is more h = case (is_text v w) (Some y) r (Some x) (v ≡ name x) (λ t e. same_text v w (sym t) ∙ sym is ∙ ap name (same_Some y x e)) (λ t e. more e) h
 
 op_back : (v : List ℕ) (x : Op) → op_of v ≡ Some x → v ≡ op_name x
 unfolding op_of op_name
-op_back v x = back v (codes "$eq") op_name Eq x _ refl (back v (codes "$ne") op_name Ne x _ refl (back v (codes "$gt") op_name Gt x _ refl (back v (codes "$gte") op_name Gte x _ refl (back v (codes "$lt") op_name Lt x _ refl (back v (codes "$lte") op_name Lte x _ refl (back v (codes "$match") op_name Match x _ refl (back v (codes "$nmatch") op_name Nmatch x _ refl (back v (codes "$before") op_name Before x _ refl (back v (codes "$last") op_name Last x _ refl (λ e. absurd (none_some x e)))))))))))
+op_back v x = back v (codes "$eq") op_name Eq x _ refl (back v (codes "$ne") op_name Ne x _ refl (back v (codes "$gt") op_name Gt x _ refl (back v (codes "$gte") op_name Gte x _ refl (back v (codes "$lt") op_name Lt x _ refl (back v (codes "$lte") op_name Lte x _ refl (back v (codes "$match") op_name Match x _ refl (back v (codes "$nmatch") op_name Nmatch x _ refl (back v (codes "$before") op_name Before x _ refl (back v (codes "$last") op_name Last x _ refl (λ e. absurd (none-some x e)))))))))))
 
 group_back : (v : List ℕ) (x : Group) → group_of v ≡ Some x → v ≡ group_name x
 unfolding group_of group_name
-group_back v x = back v (codes "$and") group_name All x _ refl (back v (codes "$or") group_name Any x _ refl (back v (codes "$msp") group_name Same x _ refl (λ e. absurd (none_some x e))))
+group_back v x = back v (codes "$and") group_name All x _ refl (back v (codes "$or") group_name Any x _ refl (back v (codes "$msp") group_name Same x _ refl (λ e. absurd (none-some x e))))
 
 order_back : (v : List ℕ) (x : Bool) → order_of v ≡ Some x → v ≡ order_name x
 unfolding order_of order_name
-order_back v x = back v (codes "$asc") order_name false x _ refl (back v (codes "$desc") order_name true x _ refl (λ e. absurd (none_some x e)))
+order_back v x = back v (codes "$asc") order_name false x _ refl (back v (codes "$desc") order_name true x _ refl (λ e. absurd (none-some x e)))
 
 abbrev pub truth_name : Bool → List ℕ
 truth_name true = codes "true"
@@ -70,7 +65,7 @@ truth_name false = codes "false"
 
 truth_back : (v : List ℕ) (x : Bool) → truth_of v ≡ Some x → v ≡ truth_name x
 unfolding truth_of
-truth_back v x = back v (codes "true") truth_name true x _ refl (back v (codes "false") truth_name false x _ refl (λ e. absurd (none_some x e)))
+truth_back v x = back v (codes "true") truth_name true x _ refl (back v (codes "false") truth_name false x _ refl (λ e. absurd (none-some x e)))
 
 abbrev pub suffix_name : Suffix → List ℕ
 suffix_name suffix.Include = codes "include"
@@ -81,7 +76,7 @@ suffix_name suffix.Distinct = codes "distinct"
 
 suffix_back : (v : List ℕ) (x : Suffix) → suffix_of v ≡ Some x → v ≡ suffix_name x
 unfolding suffix_of
-suffix_back v x = back v (codes "include") suffix_name suffix.Include x _ refl (back v (codes "sort") suffix_name suffix.Sort x _ refl (back v (codes "offset") suffix_name suffix.Offset x _ refl (back v (codes "limit") suffix_name suffix.Limit x _ refl (back v (codes "distinct") suffix_name suffix.Distinct x _ refl (λ e. absurd (none_some x e))))))
+suffix_back v x = back v (codes "include") suffix_name suffix.Include x _ refl (back v (codes "sort") suffix_name suffix.Sort x _ refl (back v (codes "offset") suffix_name suffix.Offset x _ refl (back v (codes "limit") suffix_name suffix.Limit x _ refl (back v (codes "distinct") suffix_name suffix.Distinct x _ refl (λ e. absurd (none-some x e))))))
 
 null_back : (v : List ℕ) → is_null v ≡ true → v ≡ codes "null"
 unfolding is_null
@@ -96,8 +91,8 @@ unfolding natural_of number_of
 natural_back v n h = by_sign (is_negative v) refl h
   where
     by_sign : (t : Bool) → is_negative v ≡ t → cond t (cond (digits_value (drop 1 v) == 0) (Some 0) None) (Some (digits_value v)) ≡ Some n → cond (is_negative v) (neg_ℤ (pos (digits_value (drop 1 v)))) (pos (digits_value v)) ≡ pos n
-    by_sign true is e = case (digits_value (drop 1 v) == 0) (Some 0) None (Some n) _ (λ z s. rw is (ap (λ m. neg_ℤ (pos m)) (eqb-true (digits_value (drop 1 v)) 0 z) ∙ ap pos (some_same 0 n s))) (λ z s. absurd (none_some n s)) e
-    by_sign false is e = rw is (ap pos (some_same (digits_value v) n e))
+    by_sign true is e = case (digits_value (drop 1 v) == 0) (Some 0) None (Some n) _ (λ z s. rw is (ap (λ m. neg_ℤ (pos m)) (eqb-true (digits_value (drop 1 v)) 0 z) ∙ ap pos (same_Some 0 n s))) (λ z s. absurd (none-some n s)) e
+    by_sign false is e = rw is (ap pos (same_Some (digits_value v) n e))
 
 row_cons : (x : List ℕ) (xs : List (List ℕ)) → length (row (x ∷ xs)) ≤ length x + 1 + length (row xs)
 row_cons x [] = omega arith
@@ -112,19 +107,19 @@ texts_shorter (more_texts {x = x} {xs = xs} t m r) is = omega (arith, text_short
 
 null_shorter : (t : Bool) (value : List ℕ) (x : Lit) → is_null value ≡ t → cond t (Some lit.Null) None ≡ Some x → length (literal_text x) ≤ length value
 unfolding literal_text
-null_shorter true value x is h = subst (λ (y : Lit). length (literal_text y) ≤ length value) (some_same lit.Null x h) (omega (arith, ap length (null_back value is)))
-null_shorter false value x is h = absurd (none_some x h)
+null_shorter true value x is h = subst (λ (y : Lit). length (literal_text y) ≤ length value) (same_Some lit.Null x h) (omega (arith, ap length (null_back value is)))
+null_shorter false value x is h = absurd (none-some x h)
 
 literal_cost : (kind : TokenKind) (value : List ℕ) (x : Lit) → literal_of kind value ≡ Some x → length (literal_text x) ≤ cost kind value
 unfolding literal_text
-literal_cost Words value x h = subst (λ (y : Lit). length (literal_text y) ≤ cost Words value) (some_same (lit.Words value) x h) (omega arith)
-literal_cost Number value x h = subst (λ (y : Lit). length (literal_text y) ≤ cost Number value) (some_same (lit.Number (number_of value)) x h) (omega arith)
+literal_cost Words value x h = subst (λ (y : Lit). length (literal_text y) ≤ cost Words value) (same_Some (lit.Words value) x h) (omega arith)
+literal_cost Number value x h = subst (λ (y : Lit). length (literal_text y) ≤ cost Number value) (same_Some (lit.Number (number_of value)) x h) (omega arith)
 literal_cost Name value x h = null_shorter (is_null value) value x refl h
-literal_cost _ value x h = absurd (none_some x h)
+literal_cost _ value x h = absurd (none-some x h)
 
 literal_shorter : (a : Lexed) (x : Lit) → literal_at a ≡ Some x → length (literal_text x) + weight (tail a) ≤ weight a
-literal_shorter (finish at) x h = absurd (none_some x h)
-literal_shorter (fault f) x h = absurd (none_some x h)
+literal_shorter (finish at) x h = absurd (none-some x h)
+literal_shorter (fault f) x h = absurd (none-some x h)
 literal_shorter (token b e kind value rest) x h = omega (arith, literal_cost kind value x h)
 
 test_shorter : {a b : Lexed} {x : Test} → ReadsTest a x b → length (test_text x) + weight b ≤ weight a

@@ -7,6 +7,7 @@ use Rattle.std.proofs.lemmas.Bool.{false≢true, eq-eqb, eqb-true, ltb-false}
 use Rattle.std.proofs.lemmas.Bool.Decides.{nat_tests}
 use Rattle.std.proofs.lemmas.List.{length-take}
 use Rattle.std.proofs.lemmas.Str.Parse.{IsNumeralModel, numerals_by_fold, digits_value_short}
+use Rattle.std.proofs.lemmas.Option.{none-some, same_Some}
 use Rattle.arti_aql_lex.specs.Lexed.{Lexed, finish, fault, token, begins, lexed}
 use Rattle.arti_aql_lex.specs.Literal.{literal_end}
 use Rattle.arti_aql_lex.specs.Tokens.{is_blank, is_name_start, is_name_byte, mark_of, sign_len, digits_end, number_end, token_to, mark_at, token_at, value_at}
@@ -68,10 +69,10 @@ case false x y z G f g h = g refl h
 not_zero : (n : ℕ) → (n == 0) ≡ false → 0 < n
 not_zero n h = let some : n ≢ 0 = λ z. false≢true (sym h ∙ eq-eqb n 0 z) in omega arith
 
-pub err_ok : {A : Type 0} (f : LexFault) (x : A) → Err f ≡ Ok x → ⊥
+pub err_ok : {A E : Type 0} (f : E) (x : A) → Err f ≡ Ok x → ⊥
 err_ok f x h = cc
 
-pub ok_same : {A : Type 0} (r : Result A LexFault) (x y : A) → r ≡ Ok x → r ≡ Ok y → x ≡ y
+pub ok_same : {A E : Type 0} (r : Result A E) (x y : A) → r ≡ Ok x → r ≡ Ok y → x ≡ y
 ok_same r x y h k = let same : Ok x ≡ Ok y = sym h ∙ k in cc
 
 pub record Digits (p sign n e : ℕ) : Type 0 where
@@ -98,17 +99,11 @@ record ShortNumber (value : List ℕ) : Type 0 where
   number : IsShort (unsigned_abs (number_of value))
   natural : (n : ℕ) → natural_of value ≡ Some n → IsShort n
 
-pub some_same : (m n : ℕ) → Some m ≡ Some n → m ≡ n
-some_same m n h = cc
-
-pub none_some : (n : ℕ) → None ≡ Some n → ⊥
-none_some n h = cc
-
 minus_short : (w : List ℕ) → digits_value w < 10 ^ 18 → ShortNumber (45 ∷ w)
 unfolding number_of natural_of
 minus_short w small = record {
   number = subst (λ k. k < 10 ^ 18) (sym (abs_neg (digits_value w))) small;
-  natural = λ n h. case (digits_value w == 0) (Some 0) None (Some n) (n < 10 ^ 18) (λ z e. omega (arith, some_same 0 n e)) (λ z e. absurd (none_some n e)) h;
+  natural = λ n h. case (digits_value w == 0) (Some 0) None (Some n) (n < 10 ^ 18) (λ z e. omega (arith, same_Some 0 n e)) (λ z e. absurd (none-some n e)) h;
 }
 
 plain_short : (d : ℕ) (w : List ℕ) → (d == 45) ≡ false → digits_value (d ∷ w) < 10 ^ 18 → ShortNumber (d ∷ w)
@@ -118,7 +113,7 @@ plain_short d w other small =
     let natural : natural_of (d ∷ w) ≡ Some (digits_value (d ∷ w)) = rw other refl in
     record {
       number = subst (λ z. unsigned_abs z < 10 ^ 18) (sym number) small;
-      natural = λ n h. subst (λ k. k < 10 ^ 18) (some_same (digits_value (d ∷ w)) n (sym natural ∙ h)) small;
+      natural = λ n h. subst (λ k. k < 10 ^ 18) (same_Some (digits_value (d ∷ w)) n (sym natural ∙ h)) small;
     }
 
 number_is : (p e : ℕ) (xs : List ℕ) → number_end p xs ≡ Ok e → ShortNumber (take (e - p) xs)

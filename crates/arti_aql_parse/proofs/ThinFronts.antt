@@ -5,6 +5,7 @@ use Rattle.std.proofs.lemmas.Bool.Decides.{nat_tests}
 use Rattle.std.proofs.lemmas.List.{append_assoc, append-nil, append_cancel_left, append_cancel_right, length-append, length-take-le, length-drop, take-append-drop, take_all, take-take, drop-take, get_or_past, drop-drop, get_or-take, get_or-drop, get_or_append_left, get_or-append-add}
 use Rattle.std.proofs.lemmas.Grind.{same_number_lists}
 use Rattle.std.proofs.lemmas.Bool.{false≢true, cases_lt}
+use Rattle.std.proofs.Math.Seq.{take-add}
 use Rattle.arti_aql_parse.specs.Thin.{is_key_byte, IsThinKey, AsksFor, LeavesForm}
 use Rattle.arti_aql_parse.specs.declared.thin.TheConstants.{BEFORE_KEY, AFTER_KEY}
 
@@ -24,9 +25,6 @@ length-form key = omega (arith, length-append (BEFORE_KEY ++ key) AFTER_KEY, len
 asks_long : (xs key : List ℕ) → AsksFor xs key → length xs ≡ 23 + length key
 unfolding form
 asks_long xs key asks = ap length asks.whole ∙ length-form key
-
-take_add : (n m : ℕ) (xs : List ℕ) → take (n + m) xs ≡ take n xs ++ take m (drop n xs)
-take_add n m xs = sym (take-append-drop n (take (n + m) xs)) ∙ ap (λ l. l ++ drop n (take (n + m) xs)) (take-take n (n + m) xs (omega arith)) ∙ ap (λ l. take n xs ++ l) (drop-take n m xs)
 
 form_lead : (key : List ℕ) (i : ℕ) → i < 20 → get_or (form key) i 0 ≡ get_or BEFORE_KEY i 0
 unfolding form
@@ -142,7 +140,7 @@ module _ (d : List ℕ) where
     cut_at : (close : ℕ) (tail : List ℕ) → tail ≡ drop len (drop 20 d) → close ≤ length tail → take (20 + len + close) d ≡ BEFORE_KEY ++ key ++ take close tail
     unfolding key
     cut_at close tail is within =
-        take_add (20 + len) close d ∙ ap (λ l. l ++ take close (drop (20 + len) d)) (take_add 20 len d ∙ ap (λ l. l ++ take len (drop 20 d)) front)
+        take-add (20 + len) close d ∙ ap (λ l. l ++ take close (drop (20 + len) d)) (take-add 20 len d ∙ ap (λ l. l ++ take len (drop 20 d)) front)
         ∙ ap (λ l. BEFORE_KEY ++ take len (drop 20 d) ++ take close l) (sym (is ∙ drop-drop len 20 d))
 
     -- the form is left behind the key

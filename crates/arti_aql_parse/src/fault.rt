@@ -27,15 +27,11 @@ pub enum ParseFault {
 }
 
 /// Why tokens are no query.
-#[derive(Clone, Copy, Debug, PartialEq, Eq, Error)]
+#[derive(Drop)]
 pub enum ReadFault {
-    #[error("out of memory")]
     Memory,
-    #[error("{0}")]
     Lex(LexFault),
-    #[error("at {0} another part should begin")]
     Expected(u32, What),
-    #[error("the query is too deep")]
     TooDeep,
 }
 

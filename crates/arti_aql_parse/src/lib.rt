@@ -23,6 +23,3 @@ pub use printing::print;
 pub use query::{Lit, Member, Object, Op, Query, Sort, Test};
 pub use reading::parse;
 pub use thin::{ThinFault, thin_parse};
-
-#[cfg(test)]
-mod tests;

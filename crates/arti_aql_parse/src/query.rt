@@ -3,7 +3,7 @@
 use arti_rows::{Seq, Text};
 
 /// What a test does with the value of a field.
-#[derive(Clone, Copy, Debug, PartialEq, Eq)]
+#[derive(Clone, Copy)]
 pub enum Op {
     Eq,
     Ne,
@@ -18,7 +18,7 @@ pub enum Op {
 }
 
 /// What a field is tested against.
-#[derive(Clone, Debug, PartialEq, Eq, Drop)]
+#[derive(Drop)]
 pub enum Lit {
     Words(Text),
     Number(i64),
@@ -26,7 +26,7 @@ pub enum Lit {
 }
 
 /// One test of a field.
-#[derive(Clone, Debug, PartialEq, Eq, Drop)]
+#[derive(Drop)]
 pub struct Test {
     pub op: Op,
     pub value: Lit,
@@ -34,14 +34,14 @@ pub struct Test {
 
 /// A row that meets each member.
 #[cycle(tree)]
-#[derive(Debug, Drop)]
+#[derive(Drop)]
 pub struct Object {
     pub members: Vec<Member>,
 }
 
 /// A member of an object: objects joined by and, by or, over one and the same property, or the tests of one field.
 #[cycle(tree)]
-#[derive(Debug, Drop)]
+#[derive(Drop)]
 pub enum Member {
     All(Vec<Object>),
     Any(Vec<Object>),
@@ -50,14 +50,14 @@ pub enum Member {
 }
 
 /// The fields that rows are sorted by.
-#[derive(Clone, Debug, PartialEq, Eq, Drop)]
+#[derive(Drop)]
 pub struct Sort {
     pub descending: bool,
     pub fields: Seq<Text>,
 }
 
 /// A query: whose rows are wanted, which of them, and what is shown in which order.
-#[derive(Debug, Drop)]
+#[derive(Drop)]
 pub struct Query {
     pub domain: Text,
     pub find: Seq<Object>,
@@ -69,7 +69,7 @@ pub struct Query {
 }
 
 /// What the suffixes of a query say.
-#[derive(Debug, Drop)]
+#[derive(Drop)]
 pub struct Suffixes {
     pub include: Option<Seq<Text>>,
     pub sort: Option<Sort>,

@@ -13,7 +13,7 @@ pub const BEFORE_KEY: [u8; 20] = *b"items.find({\"repo\":\"";
 pub const AFTER_KEY: [u8; 3] = *b"\"})";
 
 /// Why a body doesn't ask for the items of a repository.
-#[derive(Clone, Copy, Debug, PartialEq, Eq, Error)]
+#[derive(Clone, Copy, Debug, Error)]
 pub enum ThinFault {
     /// It has another form. Up to this byte offset it might have become one of the form.
     #[error("the query leaves the one form at {0}")]

@@ -5,7 +5,7 @@ ghost use Rattle.arti_aql_parse.specs.Words.{is_text, group_of, op_of, suffix_of
 use crate::query::Op;
 
 /// How the objects of a list are joined.
-#[derive(Clone, Copy, Debug, PartialEq, Eq)]
+#[derive(Drop)]
 pub enum Group {
     All,
     Any,
@@ -13,7 +13,7 @@ pub enum Group {
 }
 
 /// What may follow the closing parenthesis of a query.
-#[derive(Clone, Copy, Debug, PartialEq, Eq)]
+#[derive(Clone, Copy)]
 pub enum Suffix {
     Include,
     Sort,

@@ -5,7 +5,8 @@ use Rattle.std.specs.Option.{ok_or}
 use Rattle.std.specs.List.{prefix_len}
 use Rattle.std.specs.Char.{is_ascii_digit, IsAsciiDigit}
 use Rattle.std.specs.Int.{IsInRange}
-use Rattle.std.proofs.lemmas.Bool.{eqb-true, ltb-true}
+use Rattle.std.proofs.lemmas.Option.{cond_some, none-some, same_Some}
+use Rattle.std.proofs.lemmas.Bool.{eqb-true, ltb-true, and_parts}
 use Rattle.std.proofs.lemmas.Bool.Decides.{nat_tests}
 use Rattle.std.proofs.lemmas.List.{take_at, drop_at, take-append-drop}
 use Rattle.std.proofs.lemmas.List.Folds.{length-prefix_len}
@@ -18,16 +19,16 @@ use Rattle.arti_time.specs.Civil.{IsMoment, IsCivil, is_date, time_of_day, day_n
 use Rattle.arti_time.specs.Printed.{digits, written_date}
 use Rattle.arti_time.specs.Front.{two_digits, four_digits, after}
 use Rattle.arti_time.specs.Dates.{Zone, Unnamed, Zulu, East, West, Day, Time, offset_text, zone_text, fraction_text, clock_text, date_text, minutes_east, milliseconds_of, IsOffset, IsZone, IsDateText, meant, ReadsDate}
-use Rattle.arti_time.specs.DateReader.{midnight, date_front, fraction_front, at_time, time_front, skip_colon, whole_offset, offset_minutes, only_zulu, zone_east, time_and_zone, moment_at, date_of}
+use Rattle.arti_time.specs.DateReader.{midnight, date_front, fraction_front, at_time, time_front, skip_colon, whole_offset, offset_minutes, only_zulu, zone_east, clock_and_zone, time_and_zone, moment_at, date_of}
 use Rattle.arti_time.proofs.RangeLemmas.{HasDate, is_date_tells, in_moments}
-use Rattle.arti_time.proofs.FrontLemmas.{by_bool, some≢none, some_is, then_some, when_some, when_none, both_true, two_digits_sound, two_digits_complete, four_digits_sound, four_digits_complete, after_sound, after_complete, front_digits, BeginsPlain, prefix_len-digits}
+use Rattle.arti_time.proofs.FrontLemmas.{by_bool, then_some, when_none, two_digits_sound, two_digits_complete, four_digits_sound, four_digits_complete, after_sound, after_complete, front_digits, BeginsPlain, prefix_len-digits}
 
 -- a date
 
 midnight_sound : (year month day : ℕ) (c : Civil) → midnight year month day ≡ Some c → HasDate year month day × (c ≡ record { year = year; month = month; day = day; hour = 0; minute = 0; second = 0; millisecond = 0 })
 unfolding midnight
 midnight_sound year month day c e =
-    let found = when_some (is_date year month day) _ c e in
+    let found = cond_some (is_date year month day) _ c e in
     ((is_date_tells year month day).0 found.0, sym found.1)
 
 midnight_complete : (year month day : ℕ) → HasDate year month day → midnight year month day ≡ Some (record { year = year; month = month; day = day; hour = 0; minute = 0; second = 0; millisecond = 0 })
@@ -61,7 +62,7 @@ date_front_sound text rest c e =
     let mark2 = then_some (after 45 month.0.1) _ (c, rest) month.2 in
     let day = then_some (two_digits mark2.0) _ (c, rest) mark2.2 in
     let civil = then_some (midnight year.0.0 month.0.0 day.0.0) _ (c, rest) day.2 in
-    let pair = some_is _ _ civil.2 in
+    let pair = same_Some _ _ civil.2 in
     let same : civil.0 ≡ c = ap (λ (p : Civil × List ℕ). p.0) pair in
     let end : day.0.1 ≡ rest = ap (λ (p : Civil × List ℕ). p.1) pair in
     let found = midnight_sound year.0.0 month.0.0 day.0.0 civil.0 civil.1 in
@@ -123,13 +124,13 @@ with_fraction more rest n len is fits value left =
 
 fraction_front_sound : (text rest : List ℕ) (n : ℕ) → fraction_front text ≡ Some (n, rest) → (ds : List ℕ) × HasFraction ds rest text n
 unfolding fraction_front
-fraction_front_sound [] rest n e = ([], no_fraction [] rest n (0, []) (some_is {A = ℕ × List ℕ} _ _ e) refl refl)
+fraction_front_sound [] rest n e = ([], no_fraction [] rest n (0, []) (same_Some {A = ℕ × List ℕ} _ _ e) refl refl)
 fraction_front_sound (mark ∷ more) rest n e = by_bool (mark == 46)
     (λ dot. let len = prefix_len is_ascii_digit more in
     let at : cond ((len == 0) || nat_lt 9 len) None (Some (milliseconds_of (take len more), drop len more)) ≡ Some (n, rest) = rw dot at e in
     let found = when_none ((len == 0) || nat_lt 9 len) _ (n, rest) at in
     (take len more, subst (λ (m : ℕ). HasFraction (take len more) rest (m ∷ more) n) (sym (eqb-true mark 46 dot)) (with_fraction more rest n len refl found.0 (ap (λ (p : ℕ × List ℕ). p.0) found.1) (ap (λ (p : ℕ × List ℕ). p.1) found.1))))
-    (λ other. ([], no_fraction (mark ∷ more) rest n (0, mark ∷ more) (some_is {A = ℕ × List ℕ} _ _ (rw other at e)) refl refl))
+    (λ other. ([], no_fraction (mark ∷ more) rest n (0, mark ∷ more) (same_Some {A = ℕ × List ℕ} _ _ (rw other at e)) refl refl))
 
 -- what follows a fraction: no digit and no dot
 abbrev Follows : List ℕ → Type 0
@@ -157,9 +158,9 @@ fraction_front_complete (d ∷ ds) rest short all follows =
 at_time_sound : (c d : Civil) (hour minute second millisecond : ℕ) → at_time c hour minute second millisecond ≡ Some d → (hour < 24) × (minute < 60) × (second < 60) × (d ≡ record c { hour = hour; minute = minute; second = second; millisecond = millisecond })
 unfolding at_time
 at_time_sound c d hour minute second millisecond e =
-    let found = when_some (nat_lt hour 24 && (nat_lt minute 60 && nat_lt second 60)) _ d e in
-    let first = both_true (nat_lt hour 24) _ found.0 in
-    let second_test = both_true (nat_lt minute 60) _ first.1 in
+    let found = cond_some (nat_lt hour 24 && (nat_lt minute 60 && nat_lt second 60)) _ d e in
+    let first = and_parts (nat_lt hour 24) _ found.0 in
+    let second_test = and_parts (nat_lt minute 60) _ first.1 in
     (ltb-true hour 24 first.0, ltb-true minute 60 second_test.0, ltb-true second 60 second_test.1, sym found.1)
 
 at_time_complete : (c : Civil) (hour minute second millisecond : ℕ) → hour < 24 → minute < 60 → second < 60 → at_time c hour minute second millisecond ≡ Some (record c { hour = hour; minute = minute; second = second; millisecond = millisecond })
@@ -208,7 +209,7 @@ time_front_sound c text rest d e =
     let second = then_some (two_digits mark2.0) _ (d, rest) mark2.2 in
     let fraction = then_some (fraction_front second.0.1) _ (d, rest) second.2 in
     let civil = then_some (at_time c hour.0.0 minute.0.0 second.0.0 fraction.0.0) _ (d, rest) fraction.2 in
-    let pair = some_is _ _ civil.2 in
+    let pair = same_Some _ _ civil.2 in
     let same : civil.0 ≡ d = ap (λ (p : Civil × List ℕ). p.0) pair in
     let end : fraction.0.1 ≡ rest = ap (λ (p : Civil × List ℕ). p.1) pair in
     let at = at_time_sound c civil.0 hour.0.0 minute.0.0 second.0.0 fraction.0.0 civil.1 in
@@ -257,10 +258,10 @@ skip_colon_complete false minutes rest =
 whole_offset_sound : (hours minutes n : ℕ) (rest : List ℕ) → whole_offset hours minutes rest ≡ Some n → IsOffset hours minutes × (hours * 60 + minutes ≡ n) × (rest ≡ [])
 unfolding whole_offset
 whole_offset_sound hours minutes n [] e =
-    let found = when_some (nat_lt hours 24 && nat_lt minutes 60) _ n e in
-    let both = both_true (nat_lt hours 24) _ found.0 in
+    let found = cond_some (nat_lt hours 24 && nat_lt minutes 60) _ n e in
+    let both = and_parts (nat_lt hours 24) _ found.0 in
     ((ltb-true hours 24 both.0, ltb-true minutes 60 both.1), found.1, refl)
-whole_offset_sound hours minutes n (next ∷ rest) e = absurd (some≢none n e)
+whole_offset_sound hours minutes n (next ∷ rest) e = absurd (none-some n e)
 
 whole_offset_complete : (hours minutes : ℕ) → IsOffset hours minutes → whole_offset hours minutes [] ≡ Some (hours * 60 + minutes)
 unfolding whole_offset
@@ -316,9 +317,9 @@ record HasZone (zone : Zone) (east : ℤ) (text : List ℕ) : Type 0 where
 only_zulu_sound : (sign : ℕ) (rest : List ℕ) (east : ℤ) → only_zulu sign rest ≡ Some east → HasZone Zulu east (sign ∷ rest)
 unfolding only_zulu
 only_zulu_sound sign [] east e =
-    let found = when_some (sign == 90) (pos 0) east e in
+    let found = cond_some (sign == 90) (pos 0) east e in
     record { in_range = tt; value = found.1; text_is = ap (λ (c : ℕ). c ∷ []) (sym (eqb-true sign 90 found.0)) }
-only_zulu_sound sign (next ∷ rest) east e = absurd (some≢none east e)
+only_zulu_sound sign (next ∷ rest) east e = absurd (none-some east e)
 
 east_sound : (rest : List ℕ) (east : ℤ) → option_and_then (λ (n : ℕ). Some (pos n)) (offset_minutes rest) ≡ Some east → (z : Zone) × HasZone z east (43 ∷ rest)
 east_sound rest east e =
@@ -328,7 +329,7 @@ east_sound rest east e =
       East found.0 found.1 found.2,
       record {
         in_range = offset.in_range;
-        value = ap (λ (n : ℕ). pos n) offset.value ∙ some_is _ _ read.2;
+        value = ap (λ (n : ℕ). pos n) offset.value ∙ same_Some _ _ read.2;
         text_is = ap (λ (l : List ℕ). 43 ∷ l) offset.text_is;
       },
     )
@@ -341,14 +342,14 @@ west_sound rest east e =
       West found.0 found.1 found.2,
       record {
         in_range = offset.in_range;
-        value = ap (λ (n : ℕ). neg_ℤ (pos n)) offset.value ∙ some_is _ _ read.2;
+        value = ap (λ (n : ℕ). neg_ℤ (pos n)) offset.value ∙ same_Some _ _ read.2;
         text_is = ap (λ (l : List ℕ). 45 ∷ l) offset.text_is;
       },
     )
 
 zone_sound : (text : List ℕ) (east : ℤ) → zone_east text ≡ Some east → (z : Zone) × HasZone z east text
 unfolding zone_east
-zone_sound [] east e = (Unnamed, record { in_range = tt; value = some_is _ _ e; text_is = refl })
+zone_sound [] east e = (Unnamed, record { in_range = tt; value = same_Some _ _ e; text_is = refl })
 zone_sound (sign ∷ rest) east e = by_bool (sign == 43)
     (λ plus. subst (λ (c : ℕ). (z : Zone) × HasZone z east (c ∷ rest)) (sym (eqb-true sign 43 plus)) (east_sound rest east (rw plus at e)))
     (λ no. by_bool (sign == 45)
@@ -372,7 +373,7 @@ zone_follows (West colon hours minutes) = (refl, refl)
 
 moment_at_sound : (m n : ℤ) → moment_at m ≡ Some n → (m ≡ n) × IsMoment n
 moment_at_sound m n e =
-    let found = when_some (int_le (negsuc 62135596799999) m && int_le m (pos 253402300799999)) m n e in
+    let found = cond_some (int_le (negsuc 62135596799999) m && int_le m (pos 253402300799999)) m n e in
     (found.1, subst IsMoment found.1 ((in_moments m).0 found.0))
 
 moment_at_complete : (m n : ℤ) → m ≡ n → IsMoment n → moment_at m ≡ Some n
@@ -422,20 +423,20 @@ with_time c d ds zone_part more text z east m h written t zone e =
     )
 
 rest_sound : (c : Civil) (rest text : List ℕ) (p : Civil × ℤ) (m : ℤ) → IsCivil c → time_of_day c ≡ 0 → written_date c.year c.month c.day ++ rest ≡ text → time_and_zone c rest ≡ Some p → moment_at (moment_of p.0 -ℤ (p.1 *ℤ pos 60000)) ≡ Some m → ReadsDate text m
-unfolding time_and_zone
+unfolding time_and_zone clock_and_zone
 rest_sound c [] text p m h midnight written e at =
-    alone c text m h midnight written (subst (λ (q : Civil × ℤ). moment_at (moment_of q.0 -ℤ (q.1 *ℤ pos 60000)) ≡ Some m) (sym (some_is {A = Civil × ℤ} _ _ e)) at)
+    alone c text m h midnight written (subst (λ (q : Civil × ℤ). moment_at (moment_of q.0 -ℤ (q.1 *ℤ pos 60000)) ≡ Some m) (sym (same_Some {A = Civil × ℤ} _ _ e)) at)
 rest_sound c (mark ∷ more) text p m h midnight written e at = by_bool (mark == 84)
     (λ yes.
     let time = then_some (time_front c more) _ p (rw yes at e) in
     let zone = then_some (zone_east time.0.1) _ p time.2 in
     let read = time_front_sound c more time.0.1 time.0.0 time.1 in
     let found = zone_sound time.0.1 zone.0 zone.1 in
-    let same = some_is {A = Civil × ℤ} _ _ zone.2 in
+    let same = same_Some {A = Civil × ℤ} _ _ zone.2 in
     with_time c time.0.0 read.0 time.0.1 more text found.0 zone.0 m h
     (ap (λ (b : ℕ). written_date c.year c.month c.day ++ (b ∷ more)) (sym (eqb-true mark 84 yes)) ∙ written) read.1 found.1
     (subst (λ (q : Civil × ℤ). moment_at (moment_of q.0 -ℤ (q.1 *ℤ pos 60000)) ≡ Some m) (sym same) at))
-    (λ no. absurd (some≢none p (rw no at e)))
+    (λ no. absurd (none-some p (rw no at e)))
 
 -- what is read is meant by the text
 pub date_of_sound : (text : List ℕ) (m : ℤ) → date_of text ≡ Some m → ReadsDate text m
@@ -447,7 +448,7 @@ date_of_sound text m e =
     rest_sound date.0.0 date.0.1 text time.0 m front.0 front.1 front.2 time.1 time.2
 
 date_alone : (c : Civil) (m : ℤ) → IsCivil c → time_of_day c ≡ 0 → moment_of c ≡ m → IsMoment m → date_of (written_date c.year c.month c.day) ≡ Some m
-unfolding date_of time_and_zone
+unfolding date_of time_and_zone clock_and_zone
 date_alone c m h midnight means range =
     let front = date_front_complete c.year c.month c.day [] (h.year, (h.month, h.day)) in
     let day = day_number c *ℤ pos 86400000 in
@@ -455,7 +456,7 @@ date_alone c m h midnight means range =
     rw front (moment_at_complete _ m same range)
 
 date_timed : (c : Civil) (ds : List ℕ) (z : Zone) (m : ℤ) → IsDateText (Time c ds z) → meant (Time c ds z) ≡ m → IsMoment m → date_of (date_text (Time c ds z)) ≡ Some m
-unfolding date_of time_and_zone
+unfolding date_of time_and_zone clock_and_zone
 date_timed c ds z m h means range =
     let base : Civil = record { year = c.year; month = c.month; day = c.day; hour = 0; minute = 0; second = 0; millisecond = 0 } in
     let front = date_front_complete c.year c.month c.day (84 ∷ (clock_text c ++ (fraction_text ds ++ zone_text z))) (h.0.year, (h.0.month, h.0.day)) in
@@ -478,5 +479,5 @@ answer_reads text r None e er eo = rw er tt
 answer_reads text r (Some m) e er eo = rw er (date_of_sound text m (sym eo))
 
 pub answer_refuses : (text : List ℕ) (r : Result ℤ NotADate) (o : Option ℤ) (e : NotADate) → r ≡ ok_or o e → o ≡ date_of text → OnErr r ((m : ℤ) → ReadsDate text m → ⊥)
-answer_refuses text r None e er eo = rw er (λ m reads. some≢none m (eo ∙ date_of_complete text m reads))
+answer_refuses text r None e er eo = rw er (λ m reads. none-some m (eo ∙ date_of_complete text m reads))
 answer_refuses text r (Some m) e er eo = rw er tt

@@ -3,7 +3,8 @@ use Rattle.std.proofs.Common.{◌≡◌, ℕ, suc, ◌+◌, ◌-◌, ◌*◌, �
 use Rattle.std.specs.Prelude.{All, option_and_then}
 use Rattle.std.specs.List.{prefix_len}
 use Rattle.std.specs.Char.{is_ascii_digit, IsAsciiDigit}
-use Rattle.std.proofs.lemmas.Bool.{false≢true, eqb-true}
+use Rattle.std.proofs.lemmas.Option.{cond_some, none-some, same_Some}
+use Rattle.std.proofs.lemmas.Bool.{false≢true, eqb-true, and_parts}
 use Rattle.std.proofs.lemmas.Bool.Decides.{nat_tests}
 use Rattle.std.proofs.lemmas.List.Elements.{All-head, All-tail, All-cons, All-nil}
 use Rattle.arti_time.specs.Printed.{digits}
@@ -14,26 +15,15 @@ pub by_bool : {P : Type 0} (b : Bool) → (b ≡ true → P) → (b ≡ false �
 by_bool true t f = t refl
 by_bool false t f = f refl
 
-pub some≢none : {A : Type 0} (x : A) → None ≡ Some x → ⊥
-some≢none x e = cc
-
-pub some_is : {A : Type 0} (x y : A) → Some x ≡ Some y → x ≡ y
-some_is x y e = cc
-
 -- a chain of readers that succeeds succeeds at its first step
 pub then_some : {A B : Type 0} (o : Option A) (f : A → Option B) (y : B) → option_and_then f o ≡ Some y → (x : A) × (o ≡ Some x) × (f x ≡ Some y)
-then_some None f y e = absurd (some≢none y e)
+then_some None f y e = absurd (none-some y e)
 then_some (Some x) f y e = (x, refl, e)
 
--- a test that has to pass, passes
-pub when_some : {A : Type 0} (b : Bool) (x y : A) → cond b (Some x) None ≡ Some y → (b ≡ true) × (x ≡ y)
-when_some true x y e = (refl, some_is x y e)
-when_some false x y e = absurd (some≢none y e)
-
--- the same for a test that has to fail
+-- a test that has to fail, fails
 pub when_none : {A : Type 0} (b : Bool) (x y : A) → cond b None (Some x) ≡ Some y → (b ≡ false) × (x ≡ y)
-when_none true x y e = absurd (some≢none y e)
-when_none false x y e = (refl, some_is x y e)
+when_none true x y e = absurd (none-some y e)
+when_none false x y e = (refl, same_Some x y e)
 
 pub digit_true : (c : ℕ) → is_ascii_digit c ≡ true → IsAsciiDigit c
 digit_true c e = grind (arith, nat_tests)
@@ -44,20 +34,16 @@ digit_false c e h = grind (arith, nat_tests)
 pub true_digit : (c : ℕ) → IsAsciiDigit c → is_ascii_digit c ≡ true
 true_digit c h = grind (arith, nat_tests)
 
-pub both_true : (a b : Bool) → (a && b) ≡ true → (a ≡ true) × (b ≡ true)
-both_true true b e = (refl, e)
-both_true false b e = absurd (false≢true e)
-
 same_two : (high low : ℕ) → IsAsciiDigit high → IsAsciiDigit low → let n = (high - 48) * 10 + (low - 48) in (n < 100) × (48 + n / 10 % 10 ≡ high) × (48 + n % 10 ≡ low)
 same_two high low h l = (omega arith, omega arith, omega arith)
 
 pub two_digits_sound : (text : List ℕ) (n : ℕ) (rest : List ℕ) → two_digits text ≡ Some (n, rest) → (n < 100) × (digits 2 n ++ rest ≡ text)
 unfolding two_digits
-two_digits_sound [] n rest e = absurd (some≢none (n, rest) e)
-two_digits_sound (high ∷ []) n rest e = absurd (some≢none (n, rest) e)
+two_digits_sound [] n rest e = absurd (none-some (n, rest) e)
+two_digits_sound (high ∷ []) n rest e = absurd (none-some (n, rest) e)
 two_digits_sound (high ∷ low ∷ more) n rest e =
-    let found = when_some (is_ascii_digit high && is_ascii_digit low) ((high - 48) * 10 + (low - 48), more) (n, rest) e in
-    let both = both_true (is_ascii_digit high) (is_ascii_digit low) found.0 in
+    let found = cond_some (is_ascii_digit high && is_ascii_digit low) ((high - 48) * 10 + (low - 48), more) (n, rest) e in
+    let both = and_parts (is_ascii_digit high) (is_ascii_digit low) found.0 in
     let same = same_two high low (digit_true high both.0) (digit_true low both.1) in
     let en : (high - 48) * 10 + (low - 48) ≡ n = ap (λ (p : ℕ × List ℕ). p.0) found.1 in
     let er : more ≡ rest = ap (λ (p : ℕ × List ℕ). p.1) found.1 in
@@ -87,7 +73,7 @@ four_digits_sound text n rest e =
     let year = then_some (two_digits century.0.1) _ (n, rest) century.2 in
     let first = two_digits_sound text century.0.0 century.0.1 century.1 in
     let second = two_digits_sound century.0.1 year.0.0 year.0.1 year.1 in
-    let pair = some_is _ _ year.2 in
+    let pair = same_Some _ _ year.2 in
     let en : century.0.0 * 100 + year.0.0 ≡ n = ap (λ (p : ℕ × List ℕ). p.0) pair in
     let er : year.0.1 ≡ rest = ap (λ (p : ℕ × List ℕ). p.1) pair in
     join_digits century.0.0 year.0.0 n rest century.0.1 text first.0 second.0 en first.1 (ap (λ (l : List ℕ). digits 2 year.0.0 ++ l) (sym er) ∙ second.1)
@@ -105,9 +91,9 @@ four_digits_complete n rest h =
 
 pub after_sound : (byte : ℕ) (text rest : List ℕ) → after byte text ≡ Some rest → byte ∷ rest ≡ text
 unfolding after
-after_sound byte [] rest e = absurd (some≢none rest e)
+after_sound byte [] rest e = absurd (none-some rest e)
 after_sound byte (first ∷ more) rest e =
-    let found = when_some _ more rest e in
+    let found = cond_some _ more rest e in
     let same : first ≡ byte = eqb-true first byte found.0 in
     rw (same, found.1) refl
 

@@ -7,6 +7,7 @@ use Rattle.std.specs.List.{prefix_len}
 use Rattle.std.specs.Str.{bytes_eq}
 use Rattle.std.specs.Str.Parse.{digits_value}
 use Rattle.std.specs.Char.{is_ascii_digit, IsAsciiDigit}
+use Rattle.std.proofs.lemmas.Option.{none-some, same_Some}
 use Rattle.std.proofs.lemmas.Int.Digits.{digits_value_more}
 use Rattle.std.proofs.lemmas.Str.{digit_value_digit}
 use Rattle.std.proofs.lemmas.Slice.Eq.{bytes_eq-Decides}
@@ -15,7 +16,7 @@ use Rattle.std.proofs.lemmas.List.{take_at, drop_at, take-append-drop}
 use Rattle.std.proofs.lemmas.List.Folds.{length-prefix_len}
 use Rattle.arti_time.specs.declared.spans.NotASpan.{NotASpan}
 use Rattle.arti_time.specs.Spans.{SpanUnit, units, ReadsSpan, unit_among, span_of}
-use Rattle.arti_time.proofs.FrontLemmas.{by_bool, some≢none, some_is, front_digits, BeginsPlain, prefix_len-digits}
+use Rattle.arti_time.proofs.FrontLemmas.{by_bool, front_digits, BeginsPlain, prefix_len-digits}
 
 -- one digit more
 pub number_more : (bs : List ℕ) (i n d : ℕ) → i < length bs → IsAsciiDigit (get_or bs i 0) → d ≡ get_or bs i 0 - 48 → n ≡ digits_value 10 (take i bs) → n < 10 ^ i
@@ -33,9 +34,9 @@ number_bound n i few bound =
 
 -- a unit that is found is listed
 unit_sound : (us : List SpanUnit) (name : List ℕ) (ms : ℕ) → unit_among us name ≡ Some ms → (u : SpanUnit) × Contains us u × (name ≡ u.name) × (u.milliseconds ≡ ms)
-unit_sound [] name ms e = absurd (some≢none ms e)
+unit_sound [] name ms e = absurd (none-some ms e)
 unit_sound (unit ∷ more) name ms e = by_bool (bytes_eq name unit.name)
-    (λ same. (unit, (0, omega arith, refl), (bytes_eq-Decides name unit.name).0 same, some_is _ _ (rw same at e)))
+    (λ same. (unit, (0, omega arith, refl), (bytes_eq-Decides name unit.name).0 same, same_Some _ _ (rw same at e)))
     (λ other.
     let found = unit_sound more name ms (rw other at e) in
     let at = found.1 in
@@ -65,8 +66,8 @@ listed_found : (u : SpanUnit) → Contains units u → IsFound u
 listed_found u (k, h, e) = found_at k u h e
 
 map_some : {A B : Type 0} (f : A → B) (o : Option A) (y : B) → option_map f o ≡ Some y → (x : A) × (o ≡ Some x) × (f x ≡ y)
-map_some f None y e = absurd (some≢none y e)
-map_some f (Some x) y e = (x, refl, some_is (f x) y e)
+map_some f None y e = absurd (none-some y e)
+map_some f (Some x) y e = (x, refl, same_Some (f x) y e)
 
 split_span : (text : List ℕ) (len n : ℕ) → len ≡ prefix_len is_ascii_digit text → ((len == 0) || nat_lt 6 len) ≡ false → option_map (λ unit. digits_value 10 (take len text) * unit) (unit_among units (drop len text)) ≡ Some n → ReadsSpan text n
 split_span text len n is fits e =
@@ -92,7 +93,7 @@ unfolding span_of
 span_of_sound text n e =
     let len = prefix_len is_ascii_digit text in
     by_bool ((len == 0) || nat_lt 6 len)
-    (λ out. absurd (some≢none n (rw out at e)))
+    (λ out. absurd (none-some n (rw out at e)))
     (λ fits. split_span text len n refl fits (rw fits at e))
 
 join_span : (ds : List ℕ) (unit : SpanUnit) (n : ℕ) → 1 ≤ length ds → length ds ≤ 6 → All IsAsciiDigit ds → Contains units unit → digits_value 10 ds * unit.milliseconds ≡ n → span_of (ds ++ unit.name) ≡ Some n
@@ -117,5 +118,5 @@ answer_reads text r None e er eo = rw er tt
 answer_reads text r (Some n) e er eo = rw er (span_of_sound text n (sym eo))
 
 pub answer_refuses : (text : List ℕ) (r : Result ℕ NotASpan) (o : Option ℕ) (e : NotASpan) → r ≡ ok_or o e → o ≡ span_of text → OnErr r ((n : ℕ) → ReadsSpan text n → ⊥)
-answer_refuses text r None e er eo = rw er (λ n reads. some≢none n (eo ∙ span_of_complete text n reads))
+answer_refuses text r None e er eo = rw er (λ n reads. none-some n (eo ∙ span_of_complete text n reads))
 answer_refuses text r (Some n) e er eo = rw er tt

@@ -86,14 +86,17 @@ zone_east (sign ∷ rest) =
       Some (neg_ℤ (pos minutes)))
     else only_zulu sign rest)
 
+-- a time of day and a zone, if that is all
+unfoldable pub clock_and_zone : Civil → List ℕ → Option (Civil × ℤ)
+clock_and_zone c text = do
+  civil ← time_front c text
+  east ← zone_east civil.1
+  Some (civil.0, east)
+
 -- what stands after a date: nothing, or a time and a zone
 unfoldable pub time_and_zone : Civil → List ℕ → Option (Civil × ℤ)
 time_and_zone c [] = Some (c, pos 0)
-time_and_zone c (mark ∷ rest) = if mark == 84 then (do
-  civil ← time_front c rest
-  east ← zone_east civil.1
-  Some (civil.0, east))
-    else None
+time_and_zone c (mark ∷ rest) = if mark == 84 then clock_and_zone c rest else None
 
 -- a number of milliseconds, if it is a moment
 abbrev pub moment_at : ℤ → Option ℤ

@@ -10,7 +10,7 @@ use jiff_core::civil::Date;
 const DAY: i64 = 86_400_000;
 
 /// A date and a time of day in UTC.
-#[derive(Clone, Copy, Debug)]
+#[derive(Clone, Copy)]
 pub struct Civil {
     pub year: u16,
     pub month: u8,

@@ -13,7 +13,7 @@ use arti_rows::Moment;
 use thiserror::Error;
 
 /// The text is no date, or its date is no moment.
-#[derive(Clone, Copy, Debug, PartialEq, Eq, Error)]
+#[derive(Clone, Copy, Debug, Error)]
 #[error("not a date")]
 pub struct NotADate;
 
@@ -179,6 +179,19 @@ fn zone_east(text: &[u8]) -> Option<i32>
     }
 }
 
+// A time and a zone, on the day of the date.
+#[tactic(auto, unfolding(crate::specs::DateReader::clock_and_zone))]
+fn clock_and_zone(civil: Civil, text: &[u8]) -> Option<(Civil, i32)>
+    requires { IsCivil civil }
+    ensures value { result ≡ spec.clock_and_zone civil text.now }
+    ensures calendar { IfSome result (λ p. IsCivil p.0) }
+    ensures bound { IfSome result (λ p. (neg_ℤ (pos 1440) ≤ℤ p.1) × (p.1 ≤ℤ pos 1440)) }
+{
+    let (civil, rest) = time(civil, text)?;
+    let east = zone_east(rest)?;
+    Some((civil, east))
+}
+
 // What follows a date: nothing, or a time and a zone.
 #[tactic(auto, unfolding(crate::specs::DateReader::time_and_zone))]
 fn time_and_zone(civil: Civil, text: &[u8]) -> Option<(Civil, i32)>
@@ -189,11 +202,7 @@ fn time_and_zone(civil: Civil, text: &[u8]) -> Option<(Civil, i32)>
 {
     match text {
         [] => Some((civil, 0)),
-        [b'T', rest @ ..] => {
-            let (civil, rest) = time(civil, rest)?;
-            let east = zone_east(rest)?;
-            Some((civil, east))
-        }
+        [b'T', rest @ ..] => clock_and_zone(civil, rest),
         _ => None,
     }
 }

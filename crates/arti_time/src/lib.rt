@@ -15,6 +15,3 @@ pub use laws::{
 };
 pub use printing::{append, print};
 pub use spans::{NotASpan, read_span};
-
-#[cfg(test)]
-mod tests;

@@ -2,6 +2,7 @@
 ghost use Rattle.std.specs.Prelude.{◌≡◌, ◌<◌, ◌≤◌, ◌^◌, ℕ, length, slice_index, EachIndex, IfOk, IfSome, OnErr};
 ghost use Rattle.std.specs.Result.{result_ok};
 ghost use Rattle.std.specs.Char.{IsAsciiDigit};
+ghost use Rattle.std.specs.Str.{bytes_eq};
 ghost use Rattle.std.specs.Str.Parse.{digits_value};
 ghost use Rattle.arti_time.specs.Spans.{units, unit_among, span_of, ReadsSpan};
 
@@ -9,23 +10,49 @@ use crate::front::digits_len;
 use thiserror::Error;
 
 /// The text is no span of time.
-#[derive(Clone, Copy, Debug, PartialEq, Eq, Error)]
+#[derive(Clone, Copy, Debug, Error)]
 #[error("not a span of time")]
 pub struct NotASpan;
 
+fn is_name(name: &[u8], unit: &[u8]) -> bool
+    ensures { result ≡ bytes_eq name.now unit.now }
+{
+    name == unit
+}
+
+// The milliseconds of the unit with the name, in the order of the table.
 fn unit(name: &[u8]) -> Option<u64>
     ensures value { result ≡ unit_among units name.now }
     ensures bound { IfSome result (λ ms. ms ≤ 31536000000) }
 {
-    match name {
-        b"ms" | b"mills" => Some(1),
-        b"s" | b"seconds" => Some(1_000),
-        b"minutes" => Some(60_000),
-        b"d" | b"days" => Some(86_400_000),
-        b"w" | b"weeks" => Some(604_800_000),
-        b"mo" | b"months" => Some(2_592_000_000),
-        b"y" | b"years" => Some(31_536_000_000),
-        _ => None,
+    if is_name(name, b"ms") {
+        Some(1)
+    } else if is_name(name, b"mills") {
+        Some(1)
+    } else if is_name(name, b"s") {
+        Some(1_000)
+    } else if is_name(name, b"seconds") {
+        Some(1_000)
+    } else if is_name(name, b"minutes") {
+        Some(60_000)
+    } else if is_name(name, b"d") {
+        Some(86_400_000)
+    } else if is_name(name, b"days") {
+        Some(86_400_000)
+    } else if is_name(name, b"w") {
+        Some(604_800_000)
+    } else if is_name(name, b"weeks") {
+        Some(604_800_000)
+    } else if is_name(name, b"mo") {
+        Some(2_592_000_000)
+    } else if is_name(name, b"months") {
+        Some(2_592_000_000)
+    } else if is_name(name, b"y") {
+        Some(31_536_000_000)
+    } else if is_name(name, b"years") {
+        Some(31_536_000_000)
+    } else {
+        None
     }
 }
 

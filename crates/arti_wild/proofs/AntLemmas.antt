@@ -2,24 +2,12 @@
 use Rattle.std.proofs.Common.{◌≡◌, ℕ, ◌↔◌, Bool, true, false, ◌&&◌, List, [], ◌∷◌, ◌++◌, refl, sym, ap, ◌∙◌}
 use Rattle.std.specs.Prelude.{◌==◌, codes}
 use Rattle.std.specs.List.{onto_first}
-use Rattle.std.proofs.lemmas.Bool.{false≢true}
+use Rattle.std.proofs.lemmas.Bool.{false≢true, and_parts, and_from}
 use Rattle.std.proofs.lemmas.List.Splits.{slice_split-cons_yes, slice_split-cons_no}
 use Rattle.arti_wild.specs.Fits.{fits}
 use Rattle.arti_wild.specs.Wild.{wild_text}
 use Rattle.arti_wild.specs.Ant.{segments, with_open_end, pattern_segments, is_double_star, segments_fit}
-use Rattle.arti_wild.proofs.FitsLemmas.{by_bool, and_true, fits-many, any_rest_has, any_rest_of, rest_front, front_rest}
-
-nil≢cons : {A : Type 0} (x : A) (xs : List A) → x ∷ xs ≡ [] → ⊥
-nil≢cons x xs e = cc
-
-same_head : {A : Type 0} (x y : A) (xs ys : List A) → x ∷ xs ≡ y ∷ ys → x ≡ y
-same_head x y xs ys e = cc
-
-same_tail : {A : Type 0} (x y : A) (xs ys : List A) → x ∷ xs ≡ y ∷ ys → xs ≡ ys
-same_tail x y xs ys e = cc
-
-both_true : (a b : Bool) → a ≡ true → b ≡ true → (a && b) ≡ true
-both_true a b e f = rw (e, f) refl
+use Rattle.arti_wild.proofs.FitsLemmas.{by_bool, nil≢cons, same_head, same_tail, fits-many, any_rest_has, any_rest_of, rest_front, front_rest}
 
 pub ant_end : (path : List (List ℕ)) → (segments_fit [] path ≡ true) ↔ (path ≡ [])
 unfolding fits
@@ -39,8 +27,8 @@ pub ant_other : (first : List ℕ) (pattern path : List (List ℕ)) → is_doubl
 unfolding fits
 ant_other first pattern [] plain = ((λ e. absurd (false≢true (rw plain at e))), (λ (segment, rest, is, t, e). absurd (nil≢cons segment rest is)))
 ant_other first pattern (s ∷ path) plain = (
-  (λ e. let both = and_true (wild_text first s) (segments_fit pattern path) (rw plain at e) in (s, path, refl, both.0, both.1)),
-  (λ (segment, rest, is, t, e). rw plain (both_true (wild_text first s) (segments_fit pattern path) (ap (wild_text first) (sym (same_head segment s rest path is)) ∙ t) (ap (segments_fit pattern) (sym (same_tail segment s rest path is)) ∙ e))),
+  (λ e. let both = and_parts (wild_text first s) (segments_fit pattern path) (rw plain at e) in (s, path, refl, both.0, both.1)),
+  (λ (segment, rest, is, t, e). rw plain (and_from (wild_text first s) (segments_fit pattern path) (ap (wild_text first) (sym (same_head segment s rest path is)) ∙ t) (ap (segments_fit pattern) (sym (same_tail segment s rest path is)) ∙ e))),
 )
 
 -- what ends in a slash has two parts at least

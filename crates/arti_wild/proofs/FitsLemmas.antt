@@ -1,6 +1,6 @@
 -- Why what stands between two stars may be put where it first fits.
 use Rattle.std.proofs.Common.{◌≡◌, ◌⊎◌, inl, inr, ⊎_elim, ◌≤◌, Bool, true, false, not, ◌&&◌, ◌||◌, List, [], ◌∷◌, ◌++◌, length, refl, sym, ap, ◌∙◌, subst, arith}
-use Rattle.std.proofs.lemmas.Bool.{false≢true}
+use Rattle.std.proofs.lemmas.Bool.{false≢true, and_parts, or_cases, or_right}
 use Rattle.arti_wild.specs.Fits.{any_rest, is_nil, first_and_rest, fits}
 use Rattle.arti_wild.specs.Run.{takes, run_of, IsStuck, landed}
 
@@ -13,17 +13,14 @@ same_bool true b f g = sym (f refl)
 same_bool false true f g = absurd (false≢true (g refl))
 same_bool false false f g = refl
 
-pub or_true : (a b : Bool) → (a || b) ≡ true → (a ≡ true) ⊎ (b ≡ true)
-or_true true b e = inl refl
-or_true false b e = inr e
+pub nil≢cons : {X : Type 0} (x : X) (xs : List X) → x ∷ xs ≡ [] → ⊥
+nil≢cons x xs e = cc
 
-pub or_right : (a b : Bool) → b ≡ true → (a || b) ≡ true
-or_right true b e = refl
-or_right false b e = e
+pub same_head : {X : Type 0} (x y : X) (xs ys : List X) → x ∷ xs ≡ y ∷ ys → x ≡ y
+same_head x y xs ys e = cc
 
-pub and_true : (a b : Bool) → (a && b) ≡ true → (a ≡ true) × (b ≡ true)
-and_true true b e = (refl, e)
-and_true false b e = absurd (false≢true e)
+pub same_tail : {X : Type 0} (x y : X) (xs ys : List X) → x ∷ xs ≡ y ∷ ys → xs ≡ ys
+same_tail x y xs ys e = cc
 
 -- ys is xs, or what follows some front of it
 pub IsRest : {X : Type 0} → List X → List X → Type 0
@@ -35,22 +32,16 @@ unfolding IsRest
 rest_whole [] = refl
 rest_whole (x ∷ xs) = inl refl
 
-nil≢cons : {X : Type 0} (x : X) (xs : List X) → x ∷ xs ≡ [] → ⊥
-nil≢cons x xs e = cc
-
-same_tail : {X : Type 0} (x y : X) (xs ys : List X) → y ∷ ys ≡ x ∷ xs → ys ≡ xs
-same_tail x y xs ys e = cc
-
 pub rest_tail : {X : Type 0} (y : X) (ys xs : List X) → IsRest (y ∷ ys) xs → IsRest ys xs
 unfolding IsRest
 rest_tail y ys [] h = absurd (nil≢cons y ys h)
-rest_tail y ys (x ∷ xs) (inl e) = inr (subst (λ l. IsRest l xs) (sym (same_tail x y xs ys e)) (rest_whole xs))
+rest_tail y ys (x ∷ xs) (inl e) = inr (subst (λ l. IsRest l xs) (sym (same_tail y x ys xs e)) (rest_whole xs))
 rest_tail y ys (x ∷ xs) (inr h) = inr (rest_tail y ys xs h)
 
 -- the same where both lists have a first element
 pub rest_tails : {X : Type 0} (x y : X) (xs ys : List X) → IsRest (y ∷ ys) (x ∷ xs) → IsRest ys xs
 unfolding IsRest
-rest_tails x y xs ys (inl e) = subst (λ l. IsRest l xs) (sym (same_tail x y xs ys e)) (rest_whole xs)
+rest_tails x y xs ys (inl e) = subst (λ l. IsRest l xs) (sym (same_tail y x ys xs e)) (rest_whole xs)
 rest_tails x y xs ys (inr h) = rest_tail y ys xs h
 
 pub rest_rest : {X : Type 0} (zs ys xs : List X) → IsRest zs ys → IsRest ys xs → IsRest zs xs
@@ -82,7 +73,7 @@ any_rest_of test ys (x ∷ xs) (inr h) e = or_right (test (x ∷ xs)) (any_rest 
 pub any_rest_has : {X : Type 0} (test : List X → Bool) (xs : List X) → any_rest test xs ≡ true → (ys : List X) × IsRest ys xs × (test ys ≡ true)
 unfolding any_rest IsRest
 any_rest_has test [] e = ([], refl, e)
-any_rest_has test (x ∷ xs) e = ⊎_elim (λ here. (x ∷ xs, inl refl, here)) (λ later. let found = any_rest_has test xs later in (found.0, inr found.1, found.2)) (or_true (test (x ∷ xs)) (any_rest test xs) e)
+any_rest_has test (x ∷ xs) e = ⊎_elim (λ here. (x ∷ xs, inl refl, here)) (λ later. let found = any_rest_has test xs later in (found.0, inr found.1, found.2)) (or_cases (test (x ∷ xs)) (any_rest test xs) e)
 
 pub any_rest_skip : {X : Type 0} (test : List X → Bool) (x : X) (xs : List X) → test (x ∷ xs) ≡ false → any_rest test (x ∷ xs) ≡ any_rest test xs
 unfolding any_rest
@@ -160,7 +151,7 @@ module _ {P X : Type 0} (many : P → Bool) (one : P → X → Bool) where
       (λ t. absurd (false≢true (sym (fits-one p ps [] (taken p x t).0) ∙ k)))
       (λ f. let stop = sym (run_stop p ps x xs f) ∙ e in ([], subst (λ (p : List P × List X). IsRest [] p.1) stop h, subst (λ (p : List P × List X). fits many one p.0 [] ≡ true) stop k))
   follow (p ∷ ps) (x ∷ xs) (y ∷ ys) r e h k = by_bool (takes many one p x)
-      (λ t. follow ps xs ys r (sym (run_step p ps x xs t) ∙ e) (rest_tails x y xs ys h) (and_true (one p y) (fits many one ps ys) (sym (fits-one p ps (y ∷ ys) (taken p x t).0) ∙ k)).1)
+      (λ t. follow ps xs ys r (sym (run_step p ps x xs t) ∙ e) (rest_tails x y xs ys h) (and_parts (one p y) (fits many one ps ys) (sym (fits-one p ps (y ∷ ys) (taken p x t).0) ∙ k)).1)
       (λ f. let stop = sym (run_stop p ps x xs f) ∙ e in (y ∷ ys, subst (λ (p : List P × List X). IsRest (y ∷ ys) p.1) stop h, subst (λ (p : List P × List X). fits many one p.0 (y ∷ ys) ≡ true) stop k))
 
   -- a star takes whatever a later place leaves over

@@ -2,6 +2,7 @@
 use Rattle.std.proofs.Common.{◌≡◌, ℕ, zero, suc, ◌-◌, ◌<◌, ◌≤◌, Bool, true, false, ◌&&◌, List, [], ◌∷◌, ◌++◌, length, get_or, drop, set, Option, Some, None, refl, ap, ◌∙◌, arith, drop-cons, append-nil}
 use Rattle.std.specs.Prelude.{option_map, option_and_then, ◌==◌, slice_set}
 use Rattle.std.specs.Str.{chars}
+use Rattle.std.proofs.Math.Seq.{drop-length}
 use Rattle.arti_wild.specs.declared.part.Part.{Part}
 use Rattle.arti_wild.specs.declared.part.Part.TheVariants.{Char, LastSlash}
 use Rattle.arti_wild.specs.Parts.{part_of, ended, parts_of, is_parenthesis, is_slash, mark, with_last_slash, marked_for, pattern_of}
@@ -41,13 +42,9 @@ whole_read read parts inside text e end f = e ∙ ap (option_map (λ more. parts
 
 -- the last slash
 
-drop_all : (parts : List Part) → drop (length parts) parts ≡ []
-drop_all [] = refl
-drop_all (p ∷ parts) = drop_all parts
-
 pub none_at_end : (parts : List Part) → with_last_slash (drop (length parts) parts) ≡ None
 unfolding with_last_slash
-none_at_end parts = rw (drop_all parts) refl
+none_at_end parts = rw (drop-length parts) refl
 
 mark_none : (part : Part) (more : List Part) → with_last_slash more ≡ None → is_slash part ≡ false → with_last_slash (part ∷ more) ≡ None
 unfolding with_last_slash

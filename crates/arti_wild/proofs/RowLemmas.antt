@@ -1,28 +1,17 @@
 -- From which places a pattern can go on, part by part.
 use Rattle.std.proofs.Common.{◌≡◌, ⊎_elim, ℕ, zero, suc, ◌+◌, ◌-◌, ◌<◌, ◌≤◌, ◌≢◌, Bool, true, false, cond, ◌&&◌, List, [], ◌∷◌, ◌++◌, length, get_or, drop, Option, Some, None, refl, sym, ap, ◌∙◌, subst, arith, drop-cons, get_or-set_same, get_or-set_other, length-drop}
 use Rattle.std.specs.Prelude.{is_some, slice_set, reverse, nat_le}
-use Rattle.std.proofs.lemmas.Bool.{false≢true, cases_order}
+use Rattle.std.proofs.lemmas.Bool.{false≢true, cases_order, and_right}
 use Rattle.std.proofs.lemmas.Bool.Decides.{nat_tests}
-use Rattle.std.proofs.lemmas.List.{reverse-append}
+use Rattle.std.proofs.lemmas.List.{reverse-append, drop-drop}
+use Rattle.std.proofs.lemmas.Option.{none-some, same_Some}
 use Rattle.std.proofs.Math.ListN.{length-set}
+use Rattle.std.proofs.Math.Seq.{drop-length}
 use Rattle.arti_wild.specs.declared.part.Part.{Part}
 use Rattle.arti_wild.specs.declared.part.Part.TheVariants.{Char, LastSlash, Any, Star, Open, Close}
 use Rattle.arti_wild.specs.Splits.{takes_first, with_length, or_shorter, longest, greatest}
 use Rattle.arti_wild.specs.Places.{goes_on, IsRow, IsDead, IsLastPlace, AreStarPlaces, is_single}
-use Rattle.arti_wild.proofs.FitsLemmas.{by_bool}
-
-pub drop_nil : (n : ℕ) → drop {A = ℕ} n [] ≡ []
-drop_nil zero = refl
-drop_nil (suc n) = refl
-
-pub drop_drop : (n j : ℕ) (text : List ℕ) → drop n (drop j text) ≡ drop (j + n) text
-drop_drop n zero text = let e : 0 + n ≡ n = omega arith in rw e refl
-drop_drop n (suc j) [] = drop_nil n ∙ sym (drop_nil (suc j + n))
-drop_drop n (suc j) (x ∷ text) = let e : suc j + n ≡ suc (j + n) = omega arith in rw e (drop_drop n j text)
-
-pub drop_end : (text : List ℕ) → drop (length text) text ≡ []
-drop_end [] = refl
-drop_end (x ∷ text) = drop_end text
+use Rattle.arti_wild.proofs.FitsLemmas.{by_bool, nil≢cons}
 
 pub any_takes : (text : List ℕ) (place : ℕ) → place < length text → true ≡ takes_first Any (drop place text)
 any_takes text place h = rw (drop-cons text place 0 h) refl
@@ -41,7 +30,7 @@ single_goes Open parts rest e = absurd (false≢true e)
 single_goes Close parts rest e = absurd (false≢true e)
 
 single_place : (part : Part) (parts : List Part) (text : List ℕ) (place : ℕ) → is_single part ≡ true → goes_on (part ∷ parts) text place ≡ (takes_first part (drop place text) && goes_on parts text (place + 1))
-single_place part parts text place e = single_goes part parts (drop place text) e ∙ ap (λ (l : List ℕ). takes_first part (drop place text) && is_some (greatest parts l)) (drop_drop 1 place text)
+single_place part parts text place e = single_goes part parts (drop place text) e ∙ ap (λ (l : List ℕ). takes_first part (drop place text) && is_some (greatest parts l)) (drop-drop 1 place text)
 
 -- the row of a part of one character
 pub single_row : (part : Part) (text : List ℕ) (before after : List Bool) → is_single part ≡ true → length after ≡ length before
@@ -59,7 +48,7 @@ single_row part text before after single same each size parts row = record {
 }
   where
     at_the_end : (part : Part) (parts : List Part) (text : List ℕ) → is_single part ≡ true → goes_on (part ∷ parts) text (length text) ≡ false
-    at_the_end part parts text single = single_goes part parts (drop (length text) text) single ∙ ap (λ (l : List ℕ). takes_first part l && is_some (greatest parts (drop 1 l))) (drop_end text)
+    at_the_end part parts text single = single_goes part parts (drop (length text) text) single ∙ ap (λ (l : List ℕ). takes_first part l && is_some (greatest parts (drop 1 l))) (drop-length text)
 
 -- a star as long as it can be
 
@@ -72,32 +61,28 @@ pub record HasLongest (rest : List ℕ → Option (List ℕ)) (text lengths : Li
   pub goes : rest (drop first text) ≡ Some more
   pub last : (j : ℕ) → first < j → j ≤ length text → rest (drop j text) ≡ None
 
-pub some≢none : {A : Type 0} (x : A) → Some x ≡ None → ⊥
-some≢none x e = cc
-
-pub some_is : {A : Type 0} (x y : A) → Some x ≡ Some y → x ≡ y
-some_is x y e = cc
-
-nil≢cons : (n : ℕ) (ns : List ℕ) → n ∷ ns ≡ [] → ⊥
-nil≢cons n ns e = cc
+-- a part that takes what it stands at goes on as what follows it does
+pub when_takes : (b : Bool) (o : Option (List ℕ)) (lengths : List ℕ) → cond b o None ≡ Some lengths → (b ≡ true) × (o ≡ Some lengths)
+when_takes true o lengths e = (refl, e)
+when_takes false o lengths e = absurd (none-some lengths e)
 
 tail_none : (a b : Option (List ℕ)) → or_shorter a b ≡ None → b ≡ None
 tail_none None b e = e
 tail_none (Some []) b e = e
-tail_none (Some (n ∷ more)) b e = absurd (some≢none (suc n ∷ more) e)
+tail_none (Some (n ∷ more)) b e = absurd (none-some (suc n ∷ more) (sym e))
 
 front_none : (a b : Option (List ℕ)) → or_shorter a b ≡ None → a ≢ Some [] → a ≡ None
 front_none None b e h = refl
 front_none (Some []) b e h = absurd (h refl)
-front_none (Some (n ∷ more)) b e h = absurd (some≢none (suc n ∷ more) e)
+front_none (Some (n ∷ more)) b e h = absurd (none-some (suc n ∷ more) (sym e))
 
 with_length_some : (n : ℕ) (o : Option (List ℕ)) (lengths : List ℕ) → with_length n o ≡ Some lengths → (more : List ℕ) × (o ≡ Some more) × (lengths ≡ n ∷ more)
-with_length_some n None lengths e = absurd (some≢none lengths (sym e))
-with_length_some n (Some more) lengths e = (more, refl, sym (some_is (n ∷ more) lengths e))
+with_length_some n None lengths e = absurd (none-some lengths e)
+with_length_some n (Some more) lengths e = (more, refl, sym (same_Some (n ∷ more) lengths e))
 
 with_length_none : (n : ℕ) (o : Option (List ℕ)) → with_length n o ≡ None → o ≡ None
 with_length_none n None e = refl
-with_length_none n (Some more) e = absurd (some≢none (n ∷ more) e)
+with_length_none n (Some more) e = absurd (none-some (n ∷ more) (sym e))
 
 later_none : (rest : List ℕ → Option (List ℕ)) (c : ℕ) (text : List ℕ) → ((j : ℕ) → j ≤ length text → rest (drop j text) ≡ None) → (j : ℕ) → 0 < j → j ≤ length (c ∷ text) → rest (drop j (c ∷ text)) ≡ None
 later_none rest c text none zero low high = absurd (omega arith)
@@ -108,13 +93,13 @@ later_last rest c text n none zero low high = absurd (omega arith)
 later_last rest c text n none (suc j) low high = none j (omega arith) (omega arith)
 
 length_nonempty : (n : ℕ) (o : Option (List ℕ)) → with_length n o ≢ Some []
-length_nonempty n None e = some≢none [] (sym e)
-length_nonempty n (Some more) e = nil≢cons n more (some_is (n ∷ more) [] e)
+length_nonempty n None e = none-some [] e
+length_nonempty n (Some more) e = nil≢cons n more (same_Some (n ∷ more) [] e)
 
 or_nonempty : (a b : Option (List ℕ)) → b ≢ Some [] → or_shorter a b ≢ Some []
 or_nonempty None b h = h
 or_nonempty (Some []) b h = h
-or_nonempty (Some (n ∷ more)) b h = λ e. nil≢cons (suc n) more (some_is (suc n ∷ more) [] e)
+or_nonempty (Some (n ∷ more)) b h = λ e. nil≢cons (suc n) more (same_Some (suc n ∷ more) [] e)
 
 longest_nonempty : (rest : List ℕ → Option (List ℕ)) (text : List ℕ) → longest rest text ≢ Some []
 longest_nonempty rest [] = length_nonempty 0 (rest [])
@@ -134,7 +119,7 @@ here_only rest c text lengths none e =
 one_longer : (rest : List ℕ → Option (List ℕ)) (c : ℕ) (text lengths : List ℕ) → HasLongest rest text lengths → (longer : List ℕ) → or_shorter (Some lengths) (with_length 0 (rest (c ∷ text))) ≡ Some longer → HasLongest rest (c ∷ text) longer
 one_longer rest c text lengths h longer e =
     let is : Some (suc h.first ∷ h.more) ≡ Some longer = subst (λ (l : List ℕ). or_shorter (Some l) (with_length 0 (rest (c ∷ text))) ≡ Some longer) h.is e in
-    record { first = suc h.first; more = h.more; is = sym (some_is (suc h.first ∷ h.more) longer is); within = omega (arith, h.within); goes = h.goes; last = later_last rest c text h.first h.last }
+    record { first = suc h.first; more = h.more; is = sym (same_Some (suc h.first ∷ h.more) longer is); within = omega (arith, h.within); goes = h.goes; last = later_last rest c text h.first h.last }
 
 step_from : (rest : List ℕ → Option (List ℕ)) (c : ℕ) (text lengths : List ℕ) (o : Option (List ℕ)) → longest rest text ≡ o → ((shorter : List ℕ) → o ≡ Some shorter → HasLongest rest text shorter) → or_shorter o (with_length 0 (rest (c ∷ text))) ≡ Some lengths → HasLongest rest (c ∷ text) lengths
 step_from rest c text lengths None eo ih e = here_only rest c text lengths (longest_none rest text eo) e
@@ -149,7 +134,7 @@ longest_some rest (c ∷ text) lengths e =
 
 -- the row of a star
 
-is_some_has : {A : Type 0} (o : Option A) → is_some o ≡ true → (x : A) × (o ≡ Some x)
+pub is_some_has : {A : Type 0} (o : Option A) → is_some o ≡ true → (x : A) × (o ≡ Some x)
 is_some_has None e = absurd (false≢true e)
 is_some_has (Some x) e = (x, refl)
 
@@ -169,7 +154,7 @@ star_here parts text place later low high goes = by_bool (is_some (longest (grea
     let size : later - place ≤ length (drop place text) = omega (arith, length-drop place text) in
     let none = longest_none (greatest parts) (drop place text) (not_some_none (longest (greatest parts) (drop place text)) f) (later - place) size in
     let where_is : place + (later - place) ≡ later = omega arith in
-    let same : drop (later - place) (drop place text) ≡ drop later text = drop_drop (later - place) place text ∙ ap (λ (n : ℕ). drop n text) where_is in
+    let same : drop (later - place) (drop place text) ≡ drop later text = drop-drop (later - place) place text ∙ ap (λ (n : ℕ). drop n text) where_is in
     absurd (false≢true (sym (ap is_some (ap (greatest parts) (sym same) ∙ none)) ∙ goes)))
 
 star_gone : (parts : List Part) (text : List ℕ) (place : ℕ) → place ≤ length text → ((later : ℕ) → place ≤ later → later ≤ length text → goes_on parts text later ≡ false) → goes_on (Star ∷ parts) text place ≡ false
@@ -179,7 +164,7 @@ star_gone parts text place within none = by_bool (is_some (longest (greatest par
     let lengths = is_some_has (longest (greatest parts) (drop place text)) t in
     let found = longest_some (greatest parts) (drop place text) lengths.0 lengths.1 in
     let size : place + found.first ≤ length text = omega (arith, found.within, length-drop place text) in
-    absurd (false≢true (sym (none (place + found.first) (omega arith) size) ∙ ap is_some (ap (greatest parts) (sym (drop_drop found.first place text)) ∙ found.goes))))
+    absurd (false≢true (sym (none (place + found.first) (omega arith) size) ∙ ap is_some (ap (greatest parts) (sym (drop-drop found.first place text)) ∙ found.goes))))
     (λ f. f)
 
 pub star_row : (parts : List Part) (text : List ℕ) (before after : List Bool) (last : ℕ) → IsLastPlace parts text last → length after ≡ length before → ((k : ℕ) → k < length before → get_or after k false ≡ nat_le k last) → IsRow parts text before → IsRow (Star ∷ parts) text after
@@ -251,7 +236,7 @@ unfolding greatest
 no_parts_row text row len size is none end = record {
   places = omega (arith, size, is);
   each = λ place within. ⊎_elim
-      (λ (at_end : place ≡ length text). rw at_end (ap (λ k. get_or row k false) is ∙ end ∙ sym (ap (λ (l : List ℕ). is_some (greatest [] l)) (drop_end text))))
+      (λ (at_end : place ≡ length text). rw at_end (ap (λ k. get_or row k false) is ∙ end ∙ sym (ap (λ (l : List ℕ). is_some (greatest [] l)) (drop-length text))))
       (λ other. ⊎_elim
       (λ (lt : place < length text). none place (omega (arith, is)) ∙ sym (not_ended (drop place text) (drop-cons text place 0 lt)))
       (λ (gt : length text < place). absurd (omega arith)) other)
@@ -260,15 +245,11 @@ no_parts_row text row len size is none end = record {
 
 -- parts that can go on from no place stay so with others in front
 
-and_false : (a b : Bool) → b ≡ false → (a && b) ≡ false
-and_false true b e = e
-and_false false b e = refl
-
 dead_single : (part : Part) (parts : List Part) (text : List ℕ) → IsDead parts text → is_single part ≡ true → (place : ℕ) → place ≤ length text → goes_on (part ∷ parts) text place ≡ false
 dead_single part parts text dead single place within = ⊎_elim
-    (λ (at_end : place ≡ length text). rw at_end (single_goes part parts (drop (length text) text) single ∙ ap (λ (l : List ℕ). takes_first part l && is_some (greatest parts (drop 1 l))) (drop_end text)))
+    (λ (at_end : place ≡ length text). rw at_end (single_goes part parts (drop (length text) text) single ∙ ap (λ (l : List ℕ). takes_first part l && is_some (greatest parts (drop 1 l))) (drop-length text)))
     (λ other. ⊎_elim
-    (λ (lt : place < length text). single_place part parts text place single ∙ and_false (takes_first part (drop place text)) (goes_on parts text (place + 1)) (dead (place + 1) (omega arith)))
+    (λ (lt : place < length text). single_place part parts text place single ∙ and_right (takes_first part (drop place text)) (goes_on parts text (place + 1)) (dead (place + 1) (omega arith)))
     (λ (gt : length text < place). absurd (omega arith)) other)
     (cases_order place (length text))
 
@@ -300,13 +281,9 @@ pub more_parts : (parts : List Part) (i : ℕ) (d : Part) (text places : List �
     → IsRow (drop (i - 1) parts) text row × AreStarPlaces (drop (i - 1) parts) text places
 more_parts parts i d text places row some within both = rw (back_one parts i d some within) both
 
-drop_all : (parts : List Part) → drop (length parts) parts ≡ []
-drop_all [] = refl
-drop_all (p ∷ parts) = drop_all parts
-
 pub start_rows : (parts : List Part) (text : List ℕ) (row : List Bool) (places : List ℕ) → IsRow [] text row → places ≡ [] → IsRow (drop (length parts) parts) text row × AreStarPlaces (drop (length parts) parts) text (reverse places)
 unfolding AreStarPlaces
-start_rows parts text row places is e = rw (drop_all parts, e) (is, refl)
+start_rows parts text row places is e = rw (drop-length parts, e) (is, refl)
 
 pub whole_row : (parts : List Part) (text : List ℕ) (row : List Bool) (i : ℕ) → i ≡ 0 → IsRow (drop i parts) text row → get_or row 0 false ≡ is_some (greatest parts text)
 whole_row parts text row i e is = let at : IsRow parts text row = rw e at is in at.each 0 (omega arith)

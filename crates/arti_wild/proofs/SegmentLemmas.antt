@@ -3,6 +3,7 @@ use Rattle.std.proofs.Common.{◌≡◌, ℕ, suc, ◌+◌, ◌<◌, Bool, true,
 use Rattle.std.specs.Prelude.{reverse, ◌==◌}
 use Rattle.std.specs.List.{list_any, slice_split, onto_first, position_or_len, before_first, after_first}
 use Rattle.std.proofs.lemmas.Bool.{false≢true, eqb-true}
+use Rattle.std.proofs.Math.Bool.{or-false}
 use Rattle.std.proofs.lemmas.List.{reverse-append, reverse-reverse}
 use Rattle.std.proofs.lemmas.List.Splits.{slice_split_first, slice_split-cons_yes, slice_split-cons_no}
 use Rattle.arti_wild.specs.Ant.{segments, with_open_end, pattern_segments, segments_fit, pattern_fits, skip_spaces, skip_last_spaces, segments_left, pattern_left, end_of}
@@ -57,16 +58,12 @@ skip_last_none text h = ap reverse (skipped_last text (reverse text) refl h) ∙
 
 -- the patterns of a list, one by one
 
-or_false : (b : Bool) → (b || false) ≡ b
-or_false true = refl
-or_false false = refl
-
 pub first_pattern : (test : List ℕ → Bool) (patterns first more : List ℕ) → first ≡ before_first (λ b. b == 44) patterns → more ≡ after_first (λ b. b == 44) patterns → position_or_len (λ b. b == 44) patterns < length patterns
     → list_any test (slice_split (λ b. b == 44) patterns) ≡ (test first || list_any test (slice_split (λ b. b == 44) more))
 first_pattern test patterns first more front back h = rw (front, back) (ap (list_any test) (slice_split_first (λ b. b == 44) patterns 0 h))
 
 pub last_pattern : (test : List ℕ → Bool) (patterns : List ℕ) → position_or_len (λ b. b == 44) patterns ≡ length patterns → list_any test (slice_split (λ b. b == 44) patterns) ≡ test patterns
-last_pattern test patterns h = ap (list_any test) (whole_part 44 patterns h) ∙ or_false (test patterns)
+last_pattern test patterns h = ap (list_any test) (whole_part 44 patterns h) ∙ or-false (test patterns)
 
 pub not_first : (a b r : Bool) → r ≡ (a || b) → a ≡ false → r ≡ b
 not_first a b r e f = e ∙ ap (λ v. v || b) f

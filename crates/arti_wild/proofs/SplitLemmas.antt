@@ -1,42 +1,27 @@
 -- The greatest split, and wild patterns by their first character.
 use Rattle.std.proofs.Common.{◌≡◌, ◌⊎◌, inl, inr, ⊎_elim, ℕ, ◌<◌, ◌≢◌, ◌↔◌, Bool, true, false, cond, ◌&&◌, List, [], ◌∷◌, ◌++◌, drop, Option, Some, None, refl, sym, ap, ◌∙◌, subst, eq-eqb}
 use Rattle.std.specs.Prelude.{◌==◌}
-use Rattle.std.proofs.lemmas.Bool.{false≢true, eqb-true, ne_eqb, cases_order}
+use Rattle.std.proofs.lemmas.Bool.{false≢true, eqb-true, ne_eqb, cases_order, and_parts, and_from, or_cases, or_right}
+use Rattle.std.proofs.lemmas.Option.{none-some, same_Some}
 use Rattle.arti_wild.specs.declared.part.Part.{Part}
 use Rattle.arti_wild.specs.declared.part.Part.TheVariants.{Char, LastSlash, Any, Star, Open, Close}
 use Rattle.arti_wild.specs.Fits.{fits}
 use Rattle.arti_wild.specs.Wild.{is_star, stands_for, wild_chars}
 use Rattle.arti_wild.specs.Splits.{takes_first, Splits, IsAtMost, greatest}
-use Rattle.arti_wild.proofs.FitsLemmas.{or_true, or_right, and_true, fits-many, any_rest_has, any_rest_of, rest_front, front_rest}
-use Rattle.arti_wild.proofs.RowLemmas.{some≢none, some_is, longest_some, longest_none}
-
-nil≢cons : (c : ℕ) (text : List ℕ) → c ∷ text ≡ [] → ⊥
-nil≢cons c text e = cc
-
-same_head : (c d : ℕ) (rest text : List ℕ) → c ∷ rest ≡ d ∷ text → c ≡ d
-same_head c d rest text e = cc
-
-same_tail : (c d : ℕ) (rest text : List ℕ) → c ∷ rest ≡ d ∷ text → rest ≡ text
-same_tail c d rest text e = cc
-
-both_true : (a b : Bool) → a ≡ true → b ≡ true → (a && b) ≡ true
-both_true a b e f = rw (e, f) refl
+use Rattle.arti_wild.proofs.FitsLemmas.{nil≢cons, same_head, same_tail, fits-many, any_rest_has, any_rest_of, rest_front, front_rest}
+use Rattle.arti_wild.proofs.RowLemmas.{when_takes, longest_some, longest_none}
 
 stands_for_itself : (p c : ℕ) → p ≢ 63 → stands_for p c ≡ true → p ≡ c
-stands_for_itself p c plain e = ⊎_elim (λ (t : (p == 63) ≡ true). absurd (plain (eqb-true p 63 t))) (λ (t : (p == c) ≡ true). eqb-true p c t) (or_true (p == 63) (p == c) e)
+stands_for_itself p c plain e = ⊎_elim (λ (t : (p == 63) ≡ true). absurd (plain (eqb-true p 63 t))) (λ (t : (p == c) ≡ true). eqb-true p c t) (or_cases (p == 63) (p == c) e)
 
 nothing : (others lengths : List ℕ) → others ≡ [] → IsAtMost others lengths
 unfolding IsAtMost
 nothing others lengths e = rw e tt
 
-when_takes : (b : Bool) (o : Option (List ℕ)) (lengths : List ℕ) → cond b o None ≡ Some lengths → (b ≡ true) × (o ≡ Some lengths)
-when_takes true o lengths e = (refl, e)
-when_takes false o lengths e = absurd (some≢none lengths (sym e))
-
 pub greatest_splits : (parts : List Part) (text lengths : List ℕ) → greatest parts text ≡ Some lengths → Splits parts text lengths
 unfolding greatest Splits
-greatest_splits [] [] lengths e = (refl, sym (some_is [] lengths e))
-greatest_splits [] (c ∷ text) lengths e = absurd (some≢none lengths (sym e))
+greatest_splits [] [] lengths e = (refl, sym (same_Some [] lengths e))
+greatest_splits [] (c ∷ text) lengths e = absurd (none-some lengths e)
 greatest_splits (Star ∷ parts) text lengths e =
     let h = longest_some (greatest parts) text lengths e in
     (h.first, h.more, h.is, h.within, greatest_splits parts (drop h.first text) h.more h.goes)
@@ -52,7 +37,7 @@ no_less false o e t = absurd (false≢true t)
 
 pub no_splits : (parts : List Part) (text lengths : List ℕ) → greatest parts text ≡ None → Splits parts text lengths → ⊥
 unfolding greatest Splits
-no_splits [] [] lengths e s = some≢none [] e
+no_splits [] [] lengths e s = none-some [] (sym e)
 no_splits [] (c ∷ text) lengths e s = nil≢cons c text s.0
 no_splits (Star ∷ parts) text lengths e (n, more, is, within, s) = no_splits parts (drop n text) more (longest_none (greatest parts) text e n within) s
 no_splits (Open ∷ parts) text lengths e s = no_splits parts text lengths e s
@@ -102,8 +87,8 @@ first_of : (p : ℕ) (pattern text : List ℕ) → is_star p ≡ false → (wild
 unfolding fits
 first_of p pattern [] plain = ((λ e. absurd (false≢true (rw plain at e))), (λ (c, rest, is, t, e). absurd (nil≢cons c rest is)))
 first_of p pattern (d ∷ text) plain = (
-  (λ e. let both = and_true (stands_for p d) (wild_chars pattern text) (rw plain at e) in (d, text, refl, both.0, both.1)),
-  (λ (c, rest, is, t, e). rw plain (both_true (stands_for p d) (wild_chars pattern text) (ap (stands_for p) (sym (same_head c d rest text is)) ∙ t) (ap (wild_chars pattern) (sym (same_tail c d rest text is)) ∙ e))),
+  (λ e. let both = and_parts (stands_for p d) (wild_chars pattern text) (rw plain at e) in (d, text, refl, both.0, both.1)),
+  (λ (c, rest, is, t, e). rw plain (and_from (stands_for p d) (wild_chars pattern text) (ap (stands_for p) (sym (same_head c d rest text is)) ∙ t) (ap (wild_chars pattern) (sym (same_tail c d rest text is)) ∙ e))),
 )
 
 pub wild_any : (pattern text : List ℕ) → (wild_chars (63 ∷ pattern) text ≡ true) ↔ ((c : ℕ) × (rest : List ℕ) × (c ∷ rest ≡ text) × (wild_chars pattern rest ≡ true))

@@ -4,15 +4,15 @@ use Rattle.std.specs.Prelude.{is_some, option_map, map, reverse, nat_lt, slice_i
 use Rattle.std.specs.Str.{chars, IsUtf8}
 use Rattle.std.proofs.lemmas.Bool.{false≢true, cases_order}
 use Rattle.std.proofs.lemmas.Bool.Decides.{nat_tests}
-use Rattle.std.proofs.lemmas.List.{map-append, take_more, take-append-drop, get_or_append_left}
-use Rattle.std.proofs.Math.Seq.{get_or-append_seam}
+use Rattle.std.proofs.lemmas.List.{drop-drop, map-append, take_more, take-append-drop, get_or_append_left}
+use Rattle.std.proofs.Math.Seq.{drop-length, get_or-append_seam}
 use Rattle.std.proofs.lemmas.Str.{chars-encodes, encodes-append}
 use Rattle.arti_wild.specs.declared.part.Part.{Part}
 use Rattle.arti_wild.specs.declared.part.Part.TheVariants.{Char, LastSlash, Any, Star, Open, Close}
 use Rattle.arti_wild.specs.declared.capturing.Span.{Span}
 use Rattle.arti_wild.specs.Splits.{Places, takes_first, greatest, placeholders, byte_place, in_bytes, captured}
 use Rattle.arti_wild.specs.Places.{goes_on, IsLastPlace, AreStarPlaces, one_on, place_after, opened_after, closed, walk, by_offsets}
-use Rattle.arti_wild.proofs.RowLemmas.{drop_drop, drop_end, some≢none, HasLongest, longest_some}
+use Rattle.arti_wild.proofs.RowLemmas.{when_takes, is_some_has, HasLongest, longest_some}
 
 -- the first byte of each character
 
@@ -57,13 +57,9 @@ told_more f all told new left ended rest so_far split pushed =
 
 -- the walk and the split
 
-when_takes : (part : Part) (b : Bool) (o : Option (List ℕ)) (lengths : List ℕ) → cond b o None ≡ Some lengths → (b ≡ true) × (o ≡ Some lengths)
-when_takes part true o lengths e = (refl, e)
-when_takes part false o lengths e = absurd (some≢none lengths (sym e))
-
 takes_some : (part : Part) (text : List ℕ) (at : ℕ) → at ≤ length text → takes_first part (drop at text) ≡ true → at < length text
 takes_some part text at within e = ⊎_elim
-    (λ (same : at ≡ length text). absurd (false≢true (sym (ap (takes_first part) (ap (λ n. drop n text) same ∙ drop_end text)) ∙ e)))
+    (λ (same : at ≡ length text). absurd (false≢true (sym (ap (takes_first part) (ap (λ n. drop n text) same ∙ drop-length text)) ∙ e)))
     (λ other. ⊎_elim (λ (lt : at < length text). lt) (λ (gt : length text < at). absurd (omega arith)) other)
     (cases_order at (length text))
 
@@ -74,13 +70,13 @@ one_on-below limit at h = let e : nat_lt at limit ≡ true = grind (arith, nat_t
 reaches : (parts : List Part) (text lengths : List ℕ) (at last : ℕ) → at ≤ length text → IsLastPlace parts text last → (h : HasLongest (greatest parts) (drop at text) lengths) → at + h.first ≡ last
 reaches parts text lengths at last within is h =
     let size = length-drop at text in
-    let goes : goes_on parts text (at + h.first) ≡ true = ap is_some (ap (greatest parts) (sym (drop_drop h.first at text)) ∙ h.goes) in
+    let goes : goes_on parts text (at + h.first) ≡ true = ap is_some (ap (greatest parts) (sym (drop-drop h.first at text)) ∙ h.goes) in
     ⊎_elim (λ (same : at + h.first ≡ last). same)
     (λ other. ⊎_elim
     (λ (lt : at + h.first < last).
     let there : at + (last - at) ≡ last = omega arith in
     let none = h.last (last - at) (omega arith) (omega (arith, is.within, size)) in
-    absurd (false≢true (sym (ap is_some (ap (greatest parts) (sym (drop_drop (last - at) at text ∙ ap (λ n. drop n text) there)) ∙ none)) ∙ is.here)))
+    absurd (false≢true (sym (ap is_some (ap (greatest parts) (sym (drop-drop (last - at) at text ∙ ap (λ n. drop n text) there)) ∙ none)) ∙ is.here)))
     (λ (gt : last < at + h.first). absurd (false≢true (sym (is.none_later (at + h.first) gt (omega (arith, h.within, size))) ∙ goes))) other)
     (cases_order (at + h.first) last)
 
@@ -104,32 +100,28 @@ module _ (text offsets : List ℕ) (are_offsets : AreOffsets text offsets) where
   walk_is (Star ∷ parts) places lengths opened at (first, more, is, last, rest) e within before =
       let h = longest_some (greatest parts) (drop at text) lengths e in
       let there = reaches parts text lengths at first within last h in
-      let goes : greatest parts (drop first text) ≡ Some h.more = ap (greatest parts) (ap (λ n. drop n text) (sym there) ∙ sym (drop_drop h.first at text)) ∙ h.goes in
+      let goes : greatest parts (drop first text) ≡ Some h.more = ap (greatest parts) (ap (λ n. drop n text) (sym there) ∙ sym (drop-drop h.first at text)) ∙ h.goes in
       rw (is, h.is) (walk_is parts more h.more opened first rest goes last.within before ∙ ap (λ n. map (in_bytes text) (placeholders opened n parts h.more)) (sym there))
   walk_is (Open ∷ parts) places lengths opened at are e within before = walk_is parts places lengths at at are e within within
   walk_is (Close ∷ parts) places lengths opened at are e within before =
       ap (λ l. span (slice_index offsets opened) (slice_index offsets at) ∷ l) (walk_is parts places lengths opened at are e within before)
       ∙ ap (λ s. s ∷ map (in_bytes text) (placeholders opened at parts lengths)) (same_span (slice_index offsets opened) (slice_index offsets at) (byte_place text opened) (byte_place text at) (are_offsets.each opened before) (are_offsets.each at within))
   walk_is (Char c ∷ parts) places lengths opened at are e within before =
-      let found = when_takes (Char c) (takes_first (Char c) (drop at text)) (greatest parts (drop 1 (drop at text))) lengths e in
+      let found = when_takes (takes_first (Char c) (drop at text)) (greatest parts (drop 1 (drop at text))) lengths e in
       let inside = takes_some (Char c) text at within found.0 in
-      rw (one_on-below (length offsets) at (omega (arith, are_offsets.size))) (walk_is parts places lengths opened (at + 1) are (ap (greatest parts) (sym (drop_drop 1 at text)) ∙ found.1) (omega arith) before)
+      rw (one_on-below (length offsets) at (omega (arith, are_offsets.size))) (walk_is parts places lengths opened (at + 1) are (ap (greatest parts) (sym (drop-drop 1 at text)) ∙ found.1) (omega arith) before)
   walk_is (LastSlash ∷ parts) places lengths opened at are e within before =
-      let found = when_takes LastSlash (takes_first LastSlash (drop at text)) (greatest parts (drop 1 (drop at text))) lengths e in
+      let found = when_takes (takes_first LastSlash (drop at text)) (greatest parts (drop 1 (drop at text))) lengths e in
       let inside = takes_some LastSlash text at within found.0 in
-      rw (one_on-below (length offsets) at (omega (arith, are_offsets.size))) (walk_is parts places lengths opened (at + 1) are (ap (greatest parts) (sym (drop_drop 1 at text)) ∙ found.1) (omega arith) before)
+      rw (one_on-below (length offsets) at (omega (arith, are_offsets.size))) (walk_is parts places lengths opened (at + 1) are (ap (greatest parts) (sym (drop-drop 1 at text)) ∙ found.1) (omega arith) before)
   walk_is (Any ∷ parts) places lengths opened at are e within before =
-      let found = when_takes Any (takes_first Any (drop at text)) (greatest parts (drop 1 (drop at text))) lengths e in
+      let found = when_takes (takes_first Any (drop at text)) (greatest parts (drop 1 (drop at text))) lengths e in
       let inside = takes_some Any text at within found.0 in
-      rw (one_on-below (length offsets) at (omega (arith, are_offsets.size))) (walk_is parts places lengths opened (at + 1) are (ap (greatest parts) (sym (drop_drop 1 at text)) ∙ found.1) (omega arith) before)
+      rw (one_on-below (length offsets) at (omega (arith, are_offsets.size))) (walk_is parts places lengths opened (at + 1) are (ap (greatest parts) (sym (drop-drop 1 at text)) ∙ found.1) (omega arith) before)
 
 pub none_captured : (parts : List Part) (text bytes : List ℕ) → text ≡ chars bytes → greatest parts text ≡ None → None ≡ captured parts bytes
 unfolding captured
 none_captured parts text bytes e none = ap (λ (o : Option (List ℕ)). option_map (λ lengths. map (in_bytes (chars bytes)) (placeholders 0 0 parts lengths)) o) (sym none ∙ ap (greatest parts) e)
-
-is_some_has : {A : Type 0} (o : Option A) → is_some o ≡ true → (x : A) × (o ≡ Some x)
-is_some_has None e = absurd (false≢true e)
-is_some_has (Some x) e = (x, refl)
 
 pub some_captured : (parts : List Part) (bytes places offsets : List ℕ) (spans : List Span) → is_some (greatest parts (chars bytes)) ≡ true → AreStarPlaces parts (chars bytes) (reverse places) → AreOffsets (chars bytes) offsets → spans ≡ map (by_offsets offsets) (walk (length offsets) 0 0 parts (reverse places)) → Some spans ≡ captured parts bytes
 unfolding captured
@@ -158,15 +150,6 @@ some_captured_at parts parts₁ parts₂ bytes text₁ text₂ places offsets of
 
 pub none_captured_at : (parts parts₁ : List Part) (text bytes : List ℕ) → parts₁ ≡ parts → text ≡ chars bytes → greatest parts₁ text ≡ None → None ≡ captured parts bytes
 none_captured_at parts parts₁ text bytes ep et none = none_captured parts text bytes et (ap (λ p. greatest p text) (sym ep) ∙ none)
-
-pub front_part : (parts : List Part) (i : ℕ) (d : Part) → i < length parts → drop i parts ≡ get_or parts i d ∷ drop (i + 1) parts
-front_part parts i d h = let e : suc i ≡ i + 1 = omega arith in drop-cons parts i d h ∙ ap (λ n. get_or parts i d ∷ drop n parts) e
-
-pub all_gone : (parts : List Part) (i : ℕ) → length parts ≤ i → drop i parts ≡ []
-all_gone [] zero h = refl
-all_gone [] (suc i) h = refl
-all_gone (part ∷ parts) zero h = absurd (omega arith)
-all_gone (part ∷ parts) (suc i) h = all_gone parts i (omega arith)
 
 pub told_all : (f : Places → Span) (all : List Span) (told : List Span) (left : List Places) → all ≡ told ++ map f left → left ≡ [] → told ≡ all
 told_all f all told left so_far none = sym (so_far ∙ ap (λ l. told ++ map f l) none ∙ append-nil told)

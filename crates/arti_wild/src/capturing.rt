@@ -17,7 +17,7 @@ use crate::pattern::Pattern;
 use std::alloc::{AllocError, Global};
 
 /// A part of a text in bytes, `end` outside.
-#[derive(Clone, Copy, Debug, PartialEq, Eq)]
+#[derive(Clone, Copy)]
 pub struct Span {
     pub start: u32,
     pub end: u32,

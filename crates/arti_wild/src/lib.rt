@@ -15,6 +15,3 @@ pub use matching::wild;
 pub use part::Part;
 pub use pattern::{Pattern, PatternFault, read_pattern};
 pub use segments::ant;
-
-#[cfg(test)]
-mod tests;

@@ -1,7 +1,7 @@
 // The parts of a pattern with placeholders.
 
 /// A part of a pattern.
-#[derive(Clone, Copy, Debug, PartialEq, Eq)]
+#[derive(Clone, Copy)]
 pub enum Part {
     /// This character.
     Char(char),

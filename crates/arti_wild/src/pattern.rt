@@ -12,7 +12,7 @@ use std::marker::Model;
 use thiserror::Error;
 
 /// A pattern with placeholders, which contracts see as the list of its parts.
-#[derive(Debug, Drop)]
+#[derive(Drop)]
 pub struct Pattern {
     parts: Vec<Part>,
 }
@@ -36,7 +36,7 @@ impl Pattern {
 }
 
 /// Why a pattern is not read.
-#[derive(Clone, Copy, Debug, PartialEq, Eq, Error)]
+#[derive(Clone, Copy, Debug, Error)]
 pub enum PatternFault {
     #[error("a parenthesis is missing or stands inside another, or a slash is missing")]
     BadPattern,

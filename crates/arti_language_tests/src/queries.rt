@@ -1,11 +1,14 @@
+//! Query texts, read, refused and printed.
 ghost use Rattle.std.specs.Prelude.{◌≡◌, ◌≤◌, ℕ, List, length};
 ghost use Rattle.arti_aql_parse.specs.Print.{printed};
 ghost use Rattle.arti_aql_parse.specs.Spellable.{HasSpelling};
 ghost use Rattle.arti_aql_parse.specs.Spelling.{Spells, most_bytes, Answers};
 ghost use Rattle.arti_aql_parse.specs.View.{view};
 
-use super::*;
 use arti_aql_lex::LexFault;
+use arti_aql_parse::{
+    Member, Object, ParseFault, Query, ThinFault, What, parse, print, thin_parse,
+};
 use arti_rows::{Seq, Text};
 use std::alloc::Global;
 use std::test::Fail;
@@ -36,7 +39,8 @@ fn one_form(rt: HostRuntime) -> Result<(), Fail> {
     for (body, at) in &OTHER_FORMS {
         match thin_parse(rt.alloc(), body.as_bytes()) {
             Ok(_) => panic!(rt; "{body:?} is read"),
-            Err(fault) => assert_eq!(rt; fault, ThinFault::NotYet(*at), "in {body:?}"),
+            Err(ThinFault::NotYet(found)) => assert_eq!(rt; found, *at, "in {body:?}"),
+            Err(fault) => panic!(rt; "{fault} at {body:?}"),
         }
     }
     let key = thin_parse(rt.alloc(), b"items.find({\"repo\":\"generic-local_1.x\"})")?;

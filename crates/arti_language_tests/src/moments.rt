@@ -1,6 +1,6 @@
-// The calls on outside examples and at their edges.
-use crate::{print, read_date, read_span};
+//! Dates and spans of time on outside examples and at their edges.
 use arti_rows::Moment;
+use arti_time::{print, read_date, read_span};
 use std::test::Fail;
 
 #[test]
@@ -99,11 +99,9 @@ fn printed(rt: HostRuntime) -> Result<(), Fail> {
             panic!(rt; "{ms} is a moment");
         };
         let printed = print(rt.alloc(), moment)?;
-        assert_eq!(rt; printed.as_str(), text);
-        assert_eq!(rt;
-            read_date(printed.as_str()).ok().map(|moment| moment.ms()),
-            Some(ms)
-        );
+        assert_eq!(rt; printed.as_str(), text, "{ms}");
+        let again = read_date(printed.as_str()).ok().map(|moment| moment.ms());
+        assert_eq!(rt; again, Some(ms), "{text}");
     }
     Ok(())
 }

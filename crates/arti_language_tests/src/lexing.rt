@@ -1,4 +1,5 @@
-use super::*;
+//! Query texts, cut into tokens.
+use arti_aql_lex::{LexFault, Lexer, Token, TokenKind};
 use std::alloc::{AllocError, Global};
 use std::test::Fail;
 
@@ -51,8 +52,28 @@ const VALUES: [(&str, &str); 8] = [
     ("\"x\\ny é z\"", "x\ny é z"),
 ];
 
-// The kinds of a text's tokens, or its fault.
-fn kinds(alloc: Global, text: &str) -> Result<Result<Vec<Token>, LexFault>, AllocError> {
+// A text, and the tokens that it is cut into, with the bytes that each takes.
+const TEXT: &str = " items.find(\t{\"a\\n\" :[-12]}),x_9\r\n";
+const PLACES: [(TokenKind, u32, u32); 15] = [
+    (TokenKind::Name, 1, 6),
+    (TokenKind::Dot, 6, 7),
+    (TokenKind::Name, 7, 11),
+    (TokenKind::Open, 11, 12),
+    (TokenKind::ObjectOpen, 13, 14),
+    (TokenKind::Words, 14, 19),
+    (TokenKind::Colon, 20, 21),
+    (TokenKind::ListOpen, 21, 22),
+    (TokenKind::Number, 22, 25),
+    (TokenKind::ListClose, 25, 26),
+    (TokenKind::ObjectClose, 26, 27),
+    (TokenKind::Close, 27, 28),
+    (TokenKind::Comma, 28, 29),
+    (TokenKind::Name, 29, 32),
+    (TokenKind::End, 34, 34),
+];
+
+// The tokens of a text, or its fault.
+fn tokens_of(alloc: Global, text: &str) -> Result<Result<Vec<Token>, LexFault>, AllocError> {
     let mut tokens = Vec::new(alloc);
     if text.len() < 1000 {
         let mut lexer = Lexer::new(text);
@@ -86,7 +107,7 @@ fn first_value(alloc: Global, text: &str) -> Result<Vec<u8>, AllocError> {
 #[test]
 fn faults(rt: HostRuntime) -> Result<(), Fail> {
     for (text, fault) in &FAULTS {
-        match kinds(rt.alloc(), *text)? {
+        match tokens_of(rt.alloc(), *text)? {
             Ok(_) => panic!(rt; "{text:?} has no fault"),
             Err(found) => assert_eq!(rt; found, *fault, "in {text:?}"),
         }
@@ -107,35 +128,12 @@ fn values(rt: HostRuntime) -> Result<(), Fail> {
 
 #[test]
 fn places(rt: HostRuntime) -> Result<(), Fail> {
-    match kinds(rt.alloc(), " items.find(\t{\"a\\n\" :[-12]}),x_9\r\n")? {
+    match tokens_of(rt.alloc(), TEXT)? {
         Ok(tokens) => {
-            let wanted = [
-                (TokenKind::Name, 1, 6),
-                (TokenKind::Dot, 6, 7),
-                (TokenKind::Name, 7, 11),
-                (TokenKind::Open, 11, 12),
-                (TokenKind::ObjectOpen, 13, 14),
-                (TokenKind::Words, 14, 19),
-                (TokenKind::Colon, 20, 21),
-                (TokenKind::ListOpen, 21, 22),
-                (TokenKind::Number, 22, 25),
-                (TokenKind::ListClose, 25, 26),
-                (TokenKind::ObjectClose, 26, 27),
-                (TokenKind::Close, 27, 28),
-                (TokenKind::Comma, 28, 29),
-                (TokenKind::Name, 29, 32),
-                (TokenKind::End, 34, 34),
-            ];
-            assert_eq!(rt; tokens.len(), wanted.len());
-            for (token, (kind, start, end)) in tokens.iter().zip(&wanted) {
-                assert_eq!(rt;
-                    *token,
-                    Token {
-                        kind: *kind,
-                        start: *start,
-                        end: *end
-                    }
-                );
+            assert_eq!(rt; tokens.len(), PLACES.len());
+            for (token, (kind, start, end)) in tokens.iter().zip(&PLACES) {
+                assert_eq!(rt; (token.start, token.end), (*start, *end), "of the token at {start}");
+                assert!(rt; token.kind == *kind, "the kind of the token at {start}");
             }
         }
         Err(fault) => panic!(rt; "{fault}"),

@@ -1,0 +1,13 @@
+//! What the crates of texts and of the query language do, by their public calls.
+#![tactic(auto)]
+
+#[cfg(test)]
+mod json_texts;
+#[cfg(test)]
+mod lexing;
+#[cfg(test)]
+mod moments;
+#[cfg(test)]
+mod patterns;
+#[cfg(test)]
+mod queries;
