@@ -8,6 +8,7 @@ use Rattle.std.proofs.lemmas.List.Sums.{prefix_len_passes, prefix_len-le-length}
 use Rattle.std.proofs.lemmas.Str.{IsUtf8-from_ascii, IsCharBoundary-after_ascii}
 use Rattle.std.proofs.lemmas.Bool.{false≢true, eqb-true, eq-eqb, cases_lt}
 use Rattle.std.proofs.lemmas.Bool.Decides.{nat_tests}
+use Rattle.std.proofs.lemmas.Option.{none-some, same_Some}
 use Rattle.arti_aql_lex.specs.Literal.{literal_end, literal_text, IsClosed}
 use Rattle.arti_aql_lex.specs.Tokens.{is_name_start, is_name_byte, mark_of, sign_len, digits_end, number_end, token_to, mark_at, token_at, is_words, text_of, HasToken, IsNumber, is_number}
 use Rattle.arti_aql_lex.specs.declared.token.LexFault.{LexFault}
@@ -64,13 +65,20 @@ mark_ascii : (b : ℕ) (k : TokenKind) → mark_of b ≡ Some k → b < 128
 unfolding mark_of
 mark_ascii b k e = grind (arith, nat_tests)
 
-by_mark : (t : Bool) (m k : TokenKind) (r : Option TokenKind) → is_words m ≡ false → (r ≡ Some k → is_words k ≡ false) → cond t (Some m) r ≡ Some k → is_words k ≡ false
-by_mark true m k r here more e = let is : m ≡ k = cc in ap is_words (sym is) ∙ here
+-- a kind that is neither a text's nor a number's
+abbrev IsPlain : TokenKind → Type 0
+IsPlain k = (is_words k ≡ false) × (is_number k ≡ false)
+
+by_mark : (t : Bool) (m k : TokenKind) (r : Option TokenKind) → IsPlain m → (r ≡ Some k → IsPlain k) → cond t (Some m) r ≡ Some k → IsPlain k
+by_mark true m k r here more e = subst IsPlain (same_Some m k e) here
 by_mark false m k r here more e = more e
 
-mark_no_words : (b : ℕ) (k : TokenKind) → mark_of b ≡ Some k → is_words k ≡ false
+mark_plain : (b : ℕ) (k : TokenKind) → mark_of b ≡ Some k → IsPlain k
 unfolding mark_of
-mark_no_words b k = by_mark (b == 46) Dot k _ refl (by_mark (b == 40) Open k _ refl (by_mark (b == 41) Close k _ refl (by_mark (b == 123) ObjectOpen k _ refl (by_mark (b == 125) ObjectClose k _ refl (by_mark (b == 91) ListOpen k _ refl (by_mark (b == 93) ListClose k _ refl (by_mark (b == 58) Colon k _ refl (by_mark (b == 44) Comma k _ refl (λ never. let none : None ≡ Some k = never in cc)))))))))
+mark_plain b k =
+    by_mark (b == 46) Dot k _ (refl, refl) (by_mark (b == 40) Open k _ (refl, refl) (by_mark (b == 41) Close k _ (refl, refl)
+    (by_mark (b == 123) ObjectOpen k _ (refl, refl) (by_mark (b == 125) ObjectClose k _ (refl, refl) (by_mark (b == 91) ListOpen k _ (refl, refl)
+    (by_mark (b == 93) ListClose k _ (refl, refl) (by_mark (b == 58) Colon k _ (refl, refl) (by_mark (b == 44) Comma k _ (refl, refl) (λ never. absurd (none-some k never))))))))))
 
 digits_end_ok : (p : ℕ) (rest : List ℕ) (sign digits e : ℕ) → digits_end p rest sign digits ≡ Ok e → e ≡ p + sign + digits
 digits_end_ok p rest sign digits e h =
@@ -140,14 +148,6 @@ number_is p e rest h =
           ap is_ascii_digit (get_or-take (e - p) rest i 0 less ∙ ap (λ m. get_or rest m 0) (sym there) ∙ sym (get_or-drop s rest k 0)) ∙ prefix_len_passes is_ascii_digit (drop s rest) k 0 (omega (arith, lt, long, same, from));
     }
 
-by_mark_number : (t : Bool) (m k : TokenKind) (r : Option TokenKind) → is_number m ≡ false → (r ≡ Some k → is_number k ≡ false) → cond t (Some m) r ≡ Some k → is_number k ≡ false
-by_mark_number true m k r here more e = let is : m ≡ k = cc in ap is_number (sym is) ∙ here
-by_mark_number false m k r here more e = more e
-
-mark_no_number : (b : ℕ) (k : TokenKind) → mark_of b ≡ Some k → is_number k ≡ false
-unfolding mark_of
-mark_no_number b k = by_mark_number (b == 46) Dot k _ refl (by_mark_number (b == 40) Open k _ refl (by_mark_number (b == 41) Close k _ refl (by_mark_number (b == 123) ObjectOpen k _ refl (by_mark_number (b == 125) ObjectClose k _ refl (by_mark_number (b == 91) ListOpen k _ refl (by_mark_number (b == 93) ListClose k _ refl (by_mark_number (b == 58) Colon k _ refl (by_mark_number (b == 44) Comma k _ refl (λ never. let none : None ≡ Some k = never in cc)))))))))
-
 plain_by_case : (p : ℕ) (rest : List ℕ) (t : Token) → At p rest t → t.start ≡ p → is_words t.kind ≡ false → (i : ℕ) → i < t.end - t.start → get_or rest i 0 < 128
 plain_by_case p rest t (at_end none kind end) start other i lt = absurd (omega arith)
 plain_by_case p rest t (at_name first kind end) start other i lt = name_ascii (get_or rest i 0) (prefix_len_passes is_name_byte rest i 0 (omega arith))
@@ -184,7 +184,7 @@ quoted_by_case text t utf8 inside words (at_words some quote kind end) =
       closed = (s, s + 1, t.end, ap (literal_end s (s + 1) 0) (sym tail) ∙ end);
       value = ap (λ w. cond w (literal_text 0 (drop 1 (drop s text))) (take (t.end - s) (drop s text))) words ∙ ap (literal_text 0) tail;
     }
-quoted_by_case text t utf8 inside words (at_mark mark end) = absurd (false≢true (sym (mark_no_words (get_or (drop t.start text) 0 0) t.kind mark) ∙ words))
+quoted_by_case text t utf8 inside words (at_mark mark end) = absurd (false≢true (sym ((mark_plain (get_or (drop t.start text) 0 0) t.kind mark).0) ∙ words))
 
 pub quoted : (text : List ℕ) (t : Token) → IsUtf8 text → HasToken text t → is_words t.kind ≡ true → Quoted text t
 quoted text t utf8 has words = quoted_by_case text t utf8 (omega (arith, has.forward, has.within)) words (token_is t.start (drop t.start text) t has.read)
@@ -196,7 +196,7 @@ number_by_case text t number (at_number end kind) =
     let other : is_words t.kind ≡ false = ap is_words kind in
     subst IsNumber (ap (λ w. cond w (literal_text 0 (drop 1 (drop t.start text))) (take (t.end - t.start) (drop t.start text))) (sym other)) (number_is t.start t.end (drop t.start text) end)
 number_by_case text t number (at_words some quote kind end) = absurd (false≢true (sym (ap is_number kind) ∙ number))
-number_by_case text t number (at_mark mark end) = absurd (false≢true (sym (mark_no_number (get_or (drop t.start text) 0 0) t.kind mark) ∙ number))
+number_by_case text t number (at_mark mark end) = absurd (false≢true (sym ((mark_plain (get_or (drop t.start text) 0 0) t.kind mark).1) ∙ number))
 
 -- what a number token stands for
 pub number_token : (text : List ℕ) (t : Token) → HasToken text t → is_number t.kind ≡ true → IsNumber (text_of text t)

@@ -6,7 +6,7 @@ use Rattle.std.specs.Char.{encode_utf8}
 use Rattle.std.specs.Str.{IsCharBoundary}
 use Rattle.std.proofs.lemmas.List.{drop-drop, length-drop, get_or-drop, append-nil}
 use Rattle.std.proofs.lemmas.List.Sums.{prefix_len_stops}
-use Rattle.std.proofs.lemmas.Bool.{false≢true, eqb-true, eq-eqb, ne_eqb}
+use Rattle.std.proofs.lemmas.Bool.{false≢true, not-true, or_parts, eqb-true, eq-eqb, ne_eqb}
 use Rattle.arti_aql_lex.specs.Escape.{◌>>=◌, escape_at}
 use Rattle.arti_aql_lex.specs.Literal.{piece_len, literal_end, piece_text, piece_width, literal_text, character_of, width_of, escape_len, is_plain, IsClosed, spoiled_at}
 use Rattle.arti_aql_lex.specs.declared.escape.Spoiled.{Spoiled}
@@ -19,11 +19,6 @@ unfolding literal_text
 literal_text_more zero xs = refl
 literal_text_more (suc n) [] = refl
 literal_text_more (suc n) (b ∷ bs) = literal_text_more n bs
-
-neither : (a b : Bool) → not (a || b) ≡ true → (a ≡ false) × (b ≡ false)
-neither true b h = absurd (false≢true h)
-neither false true h = absurd (false≢true h)
-neither false false h = (refl, refl)
 
 either : (a b : Bool) → not (a || b) ≡ false → a ≡ false → b ≡ true
 either true b h e = absurd (false≢true (sym e))
@@ -52,7 +47,7 @@ pub record Runs (xs : List ℕ) (n : ℕ) : Type 0 where
 runs_by_first : (b : ℕ) (bs : List ℕ) (t : Bool) → is_plain b ≡ t → IsClosed (b ∷ bs) → (IsClosed bs → Runs bs (prefix_len is_plain bs)) → Runs (b ∷ bs) (prefix_len is_plain (b ∷ bs))
 unfolding literal_text piece_text piece_width
 runs_by_first b bs true plain closed more =
-    let parts = neither (b == 34) (b == 92) plain in
+    let parts = or_parts (b == 34) (b == 92) (not-true ((b == 34) || (b == 92)) plain) in
     let k = prefix_len is_plain bs in
     let r = more (closed.0, closed.1 + 1, closed.2, closed_by_control closed.0 closed.1 closed.2 b bs (nat_lt b 32) refl parts.0 parts.1 closed.3) in
     let passes : prefix_len is_plain (b ∷ bs) ≡ suc k = rw (plain, one-add) refl in

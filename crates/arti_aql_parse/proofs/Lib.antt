@@ -8,7 +8,6 @@ pub mod Joined
 pub mod OneReading
 pub mod ParseLaws
 pub mod PrintRows
-pub mod PrintTexts
 pub mod PrintPieces
 pub mod PrintTokens
 pub mod PrintNumbers

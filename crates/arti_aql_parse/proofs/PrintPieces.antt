@@ -8,7 +8,7 @@ use Rattle.std.proofs.lemmas.Str.{digit_value-digit_char, encode_ascii}
 use Rattle.json.specs.Print.{escape_byte, escape_letter}
 use Rattle.arti_aql_lex.specs.Escape.{hex_digit, hex_at, unit_at, unicode_at, short_escape, escape_at, is_high_surrogate, is_low_surrogate}
 use Rattle.arti_aql_lex.specs.Literal.{piece_len, piece_text, piece_width}
-use Rattle.arti_aql_parse.proofs.PrintTexts.{no_escape}
+use Rattle.arti_json.specs.EscapeLaws.{escape_byte-plain}
 
 -- what is printed of a byte, as a piece before other bytes
 pub record Piece (c : ℕ) : Type 0 where
@@ -25,7 +25,7 @@ unfolding piece_len piece_text piece_width
 plain c high quote slash = record {
   first = c;
   others = [];
-  whole = no_escape c (rw (high, quote, slash) refl);
+  whole = escape_byte-plain c (rw (high, quote, slash) refl);
   no_quote = quote;
   len = λ o p rest. rw (high, slash) refl;
   text = λ rest. rw slash refl;

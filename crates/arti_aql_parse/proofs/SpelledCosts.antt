@@ -25,9 +25,9 @@ use Rattle.arti_aql_lex.specs.declared.token.LexFault.TheVariants.{BadByte, Open
 use Rattle.arti_aql_lex.specs.declared.token.Token.{Token}
 use Rattle.arti_aql_lex.specs.declared.token.TokenKind.{TokenKind}
 use Rattle.arti_aql_lex.specs.declared.token.TokenKind.TheVariants.{Name, Words, Number, End}
-use Rattle.arti_aql_parse.specs.Print.{has_escape}
+use Rattle.arti_json.specs.Escapes.{has_escape}
+use Rattle.arti_json.specs.EscapeLaws.{escape_byte-plain}
 use Rattle.arti_aql_parse.specs.Words.{digits_value, number_of}
-use Rattle.arti_aql_parse.proofs.PrintTexts.{no_escape}
 use Rattle.arti_aql_parse.proofs.SpelledTokens.{case, err_ok, ok_same, own, few_digits, front_all, digits_are, is_mark, mark_is}
 
 -- how many bytes are printed for a token
@@ -51,7 +51,7 @@ high_escape [] h = refl
 high_escape (x ∷ xs) h =
     let high : 128 ≤ x = h 0 (omega arith) in
     let none : has_escape x ≡ false = grind (arith, nat_tests) in
-    ap (λ (l : List ℕ). l ++ escape xs) (no_escape x none) ∙ ap (λ (l : List ℕ). x ∷ l) (high_escape xs (λ k below. h (suc k) (omega arith)))
+    ap (λ (l : List ℕ). l ++ escape xs) (escape_byte-plain x none) ∙ ap (λ (l : List ℕ). x ∷ l) (high_escape xs (λ k below. h (suc k) (omega arith)))
 
 by_tests : (s t : Bool) (a b c : List ℕ) (n : ℕ) → length a ≤ n → length b ≤ n → length c ≤ n → length (cond s a (cond t b c)) ≤ n
 by_tests true t a b c n x y z = x
@@ -164,7 +164,7 @@ piece_is o p b bs m quote h =
     let width : piece_width (b ∷ bs) ≡ 1 = rw other refl in
     let text : piece_text (b ∷ bs) ≡ b ∷ [] = rw other refl in
     let plain : has_escape b ≡ false = rw (high, quote, other) refl in
-    let long : length (escape (b ∷ [])) ≡ 1 = ap (λ l. length (l ++ [])) (no_escape b plain) in
+    let long : length (escape (b ∷ [])) ≡ 1 = ap (λ l. length (l ++ [])) (escape_byte-plain b plain) in
     record { width = width ∙ one; short = omega (arith, ap (λ l. length (escape l)) text, long, one); some = omega (arith, one) })
     r)
     h

@@ -3,6 +3,7 @@ use Rattle.std.proofs.Common.{◌≡◌, ℕ, zero, suc, ◌+◌, ◌<◌, ◌�
 use Rattle.std.specs.Prelude.{◌==◌, codes, decimal, is_none}
 use Rattle.std.specs.Fmt.{signed_decimal}
 use Rattle.std.specs.Cmp.Lexicographic.{same_text}
+use Rattle.std.specs.Str.{bytes_eq}
 use Rattle.std.proofs.lemmas.Bool.{false≢true, eqb-true, ne_eqb}
 use Rattle.std.proofs.lemmas.List.{length-append}
 use Rattle.json.specs.Print.{escape_byte, quoted}
@@ -16,7 +17,7 @@ use Rattle.arti_aql_parse.specs.Print.{group_name, op_name, is_equality, literal
 use Rattle.arti_aql_parse.specs.Spellable.{AreNames}
 use Rattle.arti_aql_parse.specs.Spelling.{Spells}
 use Rattle.arti_aql_parse.specs.Tree.{PlainMember, Members, no_members, Objects, PlainQuery}
-use Rattle.arti_aql_parse.specs.Words.{is_text, group_of, op_of, suffix_of, truth_of, order_of, is_null, is_find, number_of, natural_of, is_negative, digits_value}
+use Rattle.arti_aql_parse.specs.Words.{group_of, op_of, suffix_of, truth_of, order_of, is_null, is_find, number_of, natural_of, is_negative, digits_value}
 use Rattle.arti_aql_parse.specs.declared.query.Lit.{Lit}
 use Rattle.arti_aql_parse.specs.declared.query.Lit.TheVariants as lit
 use Rattle.arti_aql_parse.specs.declared.query.Op.{Op}
@@ -44,8 +45,8 @@ mark_weight : {k : TokenKind} {a b : Lexed} → Mark k a b → is_mark k ≡ tru
 mark_weight {k} {a} m is = front_weight a k m.here ∙ ap (λ n. n + weight (tail a)) (mark_cost k (first_value a) is) ∙ ap (λ v. 1 + weight v) (sym m.rest)
 
 -- a text that has a meaning is the word of that meaning
-back : {A : Type 0} (v w : List ℕ) (name : A → List ℕ) (y x : A) (r : Option A) → name y ≡ w → (r ≡ Some x → v ≡ name x) → cond (is_text v w) (Some y) r ≡ Some x → v ≡ name x
-back v w name y x r is more h = case (is_text v w) (Some y) r (Some x) (v ≡ name x) (λ t e. same_text v w (sym t) ∙ sym is ∙ ap name (same_Some y x e)) (λ t e. more e) h
+back : {A : Type 0} (v w : List ℕ) (name : A → List ℕ) (y x : A) (r : Option A) → name y ≡ w → (r ≡ Some x → v ≡ name x) → cond (bytes_eq v w) (Some y) r ≡ Some x → v ≡ name x
+back v w name y x r is more h = case (bytes_eq v w) (Some y) r (Some x) (v ≡ name x) (λ t e. same_text v w (sym t) ∙ sym is ∙ ap name (same_Some y x e)) (λ t e. more e) h
 
 op_back : (v : List ℕ) (x : Op) → op_of v ≡ Some x → v ≡ op_name x
 unfolding op_of op_name

@@ -42,10 +42,6 @@ literal_text (lit.Words text) = quoted text
 literal_text (lit.Number n) = signed_decimal n
 literal_text lit.Null = codes "null"
 
--- a byte that is written with an escape: a control character, a quote or a backslash
-abbrev pub has_escape : ℕ → Bool
-has_escape b = nat_lt b 32 || b == 34 || b == 92
-
 -- parts with commas between them
 abbrev pub row : List (List ℕ) → List ℕ
 row = separated 44

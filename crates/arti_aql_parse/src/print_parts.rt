@@ -3,7 +3,8 @@ ghost use Rattle.std.specs.Prelude.{◌≡◌, ◌++◌, ◌∷◌, [], length, 
 ghost use Rattle.std.specs.Fmt.{signed_decimal};
 ghost use Rattle.std.specs.List.{list_any};
 ghost use Rattle.json.specs.Print.{quoted};
-ghost use Rattle.arti_aql_parse.specs.Print.{has_escape, comma_before, group_name, op_name, is_equality, literal_text, test_text, tests_text, operand_text, row, texts_text};
+ghost use Rattle.arti_json.specs.Escapes.{has_escape};
+ghost use Rattle.arti_aql_parse.specs.Print.{comma_before, group_name, op_name, is_equality, literal_text, test_text, tests_text, operand_text, row, texts_text};
 
 use crate::query::{Lit, Op, Test};
 use crate::words::Group;

@@ -1,6 +1,7 @@
 //! The words that the grammar gives a meaning.
 ghost use Rattle.std.specs.Prelude.{◌≡◌};
-ghost use Rattle.arti_aql_parse.specs.Words.{is_text, group_of, op_of, suffix_of, truth_of, is_null, is_find, begins_with_dollar, order_of};
+ghost use Rattle.std.specs.Str.{bytes_eq};
+ghost use Rattle.arti_aql_parse.specs.Words.{group_of, op_of, suffix_of, truth_of, is_null, is_find, begins_with_dollar, order_of};
 
 use crate::query::Op;
 
@@ -23,7 +24,7 @@ pub enum Suffix {
 }
 
 fn same(a: &str, b: &str) -> bool
-    ensures { result ≡ is_text a.now b.now }
+    ensures { result ≡ bytes_eq a.now b.now }
 {
     a == b
 }

@@ -7,10 +7,8 @@ ghost use Rattle.arti_aql_reply.specs.Rows.{facts_of_row, facts_of_rows};
 use crate::ReplyFault;
 use crate::row::write_row;
 use arti_json::write_number;
-use arti_rows::ItemRow;
+use arti_rows::{ItemRow, MOST_REPLY};
 use std::alloc::{AllocError, Global};
-
-const REPLY_ROOM: usize = 67_108_864;
 
 // Appends a row behind others.
 fn write_next_row(alloc: Global, out: &mut Vec<u8>, row: &ItemRow) -> Result<(), AllocError>
@@ -26,7 +24,7 @@ fn write_next(alloc: Global, out: &mut Vec<u8>, row: &ItemRow) -> Result<(), Rep
     ensures too_large { IsErrOf result ReplyFault.ReplyTooLarge → reply_room < length (out.old.items ++ 44 ∷ row_text (facts_of_row row.now)) }
 {
     write_next_row(alloc, out, row)?;
-    if out.len() > REPLY_ROOM {
+    if MOST_REPLY < out.len() {
         return Err(ReplyFault::ReplyTooLarge);
     }
     Ok(())
@@ -122,7 +120,7 @@ pub fn thin_reply(alloc: Global, rows: &[&ItemRow]) -> Result<Vec<u8>, ReplyFaul
         return Err(fault);
     }
     write_end(alloc, &mut out, rows.len() as u64)?;
-    if out.len() > REPLY_ROOM {
+    if out.len() > MOST_REPLY {
         return Err(ReplyFault::ReplyTooLarge);
     }
     Ok(out)

@@ -54,6 +54,7 @@ const VALUES: [(&str, &str); 8] = [
 
 // A text, and the tokens that it is cut into, with the bytes that each takes.
 const TEXT: &str = " items.find(\t{\"a\\n\" :[-12]}),x_9\r\n";
+
 const PLACES: [(TokenKind, u32, u32); 15] = [
     (TokenKind::Name, 1, 6),
     (TokenKind::Dot, 6, 7),
@@ -132,7 +133,11 @@ fn places(rt: HostRuntime) -> Result<(), Fail> {
         Ok(tokens) => {
             assert_eq!(rt; tokens.len(), PLACES.len());
             for (token, (kind, start, end)) in tokens.iter().zip(&PLACES) {
-                assert_eq!(rt; (token.start, token.end), (*start, *end), "of the token at {start}");
+                assert_eq!(rt;
+                    (token.start, token.end),
+                    (*start, *end),
+                    "of the token at {start}"
+                );
                 assert!(rt; token.kind == *kind, "the kind of the token at {start}");
             }
         }

@@ -11,7 +11,8 @@ use Rattle.jiff_core.proofs.MarchLemmas.{day_count-early}
 use Rattle.jiff_core.proofs.CalendarLemmas.{days_from_civil-day_count, days_in_month_bounds, day_count-lt_year, day_count-day, day_count-next_month, day_count-next_year, day_count-last_of_year, day_count-end}
 use Rattle.jiff_core.proofs.DateLemmas.{civil}
 use borrow.Author.Differences.{up, down}
-use Rattle.arti_time.specs.Civil.{IsMoment, IsCivil, moment_of}
+use Rattle.arti_rows.specs.Moments.{IsMoment}
+use Rattle.arti_time.specs.Civil.{IsCivil, moment_of}
 use Rattle.arti_time.specs.Printed.{last_with, year_at, month_at, civil_on, civil_at}
 
 -- 1 January of the year 1

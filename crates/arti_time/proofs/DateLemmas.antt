@@ -15,7 +15,8 @@ use Rattle.std.proofs.lemmas.Int.{ints}
 use Rattle.jiff_core.proofs.CalendarLemmas.{days_in_month_bounds}
 use Rattle.arti_time.specs.declared.civil.Civil.{Civil}
 use Rattle.arti_time.specs.declared.dates.NotADate.{NotADate}
-use Rattle.arti_time.specs.Civil.{IsMoment, IsCivil, is_date, time_of_day, day_number, moment_of}
+use Rattle.arti_rows.specs.Moments.{IsMoment, is_moment}
+use Rattle.arti_time.specs.Civil.{IsCivil, is_date, time_of_day, day_number, moment_of}
 use Rattle.arti_time.specs.Printed.{digits, written_date}
 use Rattle.arti_time.specs.Front.{two_digits, four_digits, after}
 use Rattle.arti_time.specs.Dates.{Zone, Unnamed, Zulu, East, West, Day, Time, offset_text, zone_text, fraction_text, clock_text, date_text, minutes_east, milliseconds_of, IsOffset, IsZone, IsDateText, meant, ReadsDate}
@@ -373,7 +374,7 @@ zone_follows (West colon hours minutes) = (refl, refl)
 
 moment_at_sound : (m n : ℤ) → moment_at m ≡ Some n → (m ≡ n) × IsMoment n
 moment_at_sound m n e =
-    let found = cond_some (int_le (negsuc 62135596799999) m && int_le m (pos 253402300799999)) m n e in
+    let found = cond_some (is_moment m) m n e in
     (found.1, subst IsMoment found.1 ((in_moments m).0 found.0))
 
 moment_at_complete : (m n : ℤ) → m ≡ n → IsMoment n → moment_at m ≡ Some n

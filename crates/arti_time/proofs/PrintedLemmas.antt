@@ -7,7 +7,8 @@ use Rattle.jiff_core.proofs.SignedLemmas.{signed_arith}
 use Rattle.jiff_core.proofs.CalendarLemmas.{days_from_civil-day_count, day_count-lt_year, day_count-lt_month}
 use Rattle.jiff_core.proofs.DateLemmas.{days_from_civil-day}
 use Rattle.arti_time.specs.declared.civil.Civil.{Civil}
-use Rattle.arti_time.specs.Civil.{IsMoment, IsCivil, time_of_day, day_number, moment_of}
+use Rattle.arti_rows.specs.Moments.{IsMoment}
+use Rattle.arti_time.specs.Civil.{IsCivil, time_of_day, day_number, moment_of}
 use Rattle.arti_time.specs.Printed.{civil_at, printed, written}
 use Rattle.arti_time.proofs.CivilLemmas.{civil_at_is}
 

@@ -11,7 +11,9 @@ use Rattle.jiff_core.proofs.SignedLemmas.{signed_arith}
 use Rattle.jiff_core.proofs.CalendarLemmas.{days_from_civil-day_count, day_count_bounds, day_count-later_year, day_count-day_of_year}
 use mir.Facts.{to_z_pos}
 use Rattle.arti_time.specs.declared.civil.Civil.{Civil}
-use Rattle.arti_time.specs.Civil.{IsMoment, IsCivil, is_date, day_number}
+use Rattle.arti_rows.specs.Moments.{IsMoment, is_moment}
+use Rattle.arti_rows.specs.MomentLaws.{is_moment-true, IsMoment-passes}
+use Rattle.arti_time.specs.Civil.{IsCivil, is_date, day_number}
 use Rattle.arti_time.specs.DateReader.{moment_at}
 use Rattle.arti_time.proofs.CivilLemmas.{day_count-first_year}
 use Rattle.arti_time.proofs.PrintedLemmas.{calendar}
@@ -58,8 +60,8 @@ day_number_range c h =
     let count = days_from_civil-day_count (pos c.year) c.month c.day in
     (omega (arith, signed_arith, count, day_least c h), omega (arith, signed_arith, count, day_count_bounds (pos c.year) c.month c.day (calendar c h)))
 
-pub in_moments : (m : ℤ) → Decides (int_le (negsuc 62135596799999) m && int_le m (pos 253402300799999)) (IsMoment m)
-in_moments m = ((λ e. (grind (arith, signed_arith), grind (arith, signed_arith))), (λ h. grind (arith, signed_arith)))
+pub in_moments : (m : ℤ) → Decides (is_moment m) (IsMoment m)
+in_moments m = (is_moment-true m, IsMoment-passes m)
 
 pick : (r : Option ℤ) (m : ℤ) (b : Bool) → Decides b (IsMoment m) → (IsSome r ↔ IsMoment m) → IfSome r (λ v. v ≡ m) → r ≡ cond b (Some m) None
 pick None m true tells some value = absurd (false≢true (some.1 (tells.0 refl)))

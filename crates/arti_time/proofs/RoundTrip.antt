@@ -4,7 +4,8 @@ use Rattle.std.specs.Prelude.{All}
 use Rattle.std.specs.Char.{IsAsciiDigit}
 use Rattle.std.proofs.lemmas.Int.{ints}
 use Rattle.std.proofs.lemmas.List.Elements.{All-nil, All-cons}
-use Rattle.arti_time.specs.Civil.{IsMoment, moment_of}
+use Rattle.arti_rows.specs.Moments.{IsMoment}
+use Rattle.arti_time.specs.Civil.{moment_of}
 use Rattle.arti_time.specs.Printed.{digits, civil_at, printed}
 use Rattle.arti_time.specs.Dates.{Zulu, Time, milliseconds_of}
 use Rattle.arti_time.specs.DateReader.{date_of}

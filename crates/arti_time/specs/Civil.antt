@@ -4,10 +4,6 @@ use Rattle.std.specs.Int.{is_in_range, IsInRange}
 use Rattle.jiff_core.specs.Calendar.{days_in_month, days_from_civil}
 use Rattle.arti_time.specs.declared.civil.Civil.{Civil}
 
--- A moment is a number of milliseconds since 1970-01-01T00:00:00Z. It lies in the years 1 to 9999.
-abbrev pub IsMoment : ℤ → Type 0
-IsMoment m = (negsuc 62135596799999 ≤ℤ m) × (m ≤ℤ pos 253402300799999)
-
 -- the calendar has the date, and a day has the time
 pub record IsCivil (c : Civil) : Type 0 where
   pub year : IsInRange 1 9999 c.year

@@ -2,6 +2,7 @@
 use Rattle.std.specs.Prelude.{ℕ, ◌+◌, ◌*◌, ◌&&◌, ◌||◌, ◌==◌, nat_lt, if◌then◌else◌, List, [], ◌∷◌, take, drop, Option, Some, None, ℤ, pos, negsuc, neg_ℤ, ◌-ℤ◌, ◌*ℤ◌, int_le}
 use Rattle.std.specs.List.{prefix_len}
 use Rattle.std.specs.Char.{is_ascii_digit}
+use Rattle.arti_rows.specs.Moments.{is_moment}
 use Rattle.arti_time.specs.declared.civil.Civil.{Civil}
 use Rattle.arti_time.specs.Civil.{is_date, moment_of}
 use Rattle.arti_time.specs.Dates.{milliseconds_of}
@@ -100,7 +101,7 @@ time_and_zone c (mark ∷ rest) = if mark == 84 then clock_and_zone c rest else 
 
 -- a number of milliseconds, if it is a moment
 abbrev pub moment_at : ℤ → Option ℤ
-moment_at m = if int_le (negsuc 62135596799999) m && int_le m (pos 253402300799999) then Some m else None
+moment_at m = if is_moment m then Some m else None
 
 -- the moment that a text means, if it is a date
 unfoldable pub date_of : List ℕ → Option ℤ

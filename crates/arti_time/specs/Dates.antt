@@ -2,7 +2,8 @@
 use Rattle.std.specs.Prelude.{◌≡◌, ℕ, ◌+◌, ◌-◌, ◌*◌, ◌≤◌, ◌<◌, Bool, if◌then◌else◌, List, [], ◌∷◌, ◌++◌, length, codes, slice_index, ℤ, pos, neg_ℤ, ◌-ℤ◌, ◌*ℤ◌, All}
 use Rattle.std.specs.Char.{IsAsciiDigit}
 use Rattle.arti_time.specs.declared.civil.Civil.{Civil}
-use Rattle.arti_time.specs.Civil.{IsMoment, IsCivil, time_of_day, moment_of}
+use Rattle.arti_rows.specs.Moments.{IsMoment}
+use Rattle.arti_time.specs.Civil.{IsCivil, time_of_day, moment_of}
 use Rattle.arti_time.specs.Printed.{digits, written_date}
 
 -- no zone, `Z`, or hours and minutes east or west of UTC, with a colon between them or without one

@@ -1,7 +1,8 @@
 // Moments as dates and times of day.
 ghost use Rattle.std.specs.Prelude.{◌≡◌, ◌+◌, ◌*◌, ◌<◌, ◌≤ℤ◌, pos, negsuc, ◌+ℤ◌, ◌*ℤ◌, is_some, IfSome};
 ghost use Rattle.jiff_core.specs.Date.{epoch_day};
-ghost use Rattle.arti_time.specs.Civil.{IsMoment, IsCivil, is_date, moment_of};
+ghost use Rattle.arti_rows.specs.Moments.{IsMoment};
+ghost use Rattle.arti_time.specs.Civil.{IsCivil, is_date, moment_of};
 ghost use Rattle.arti_time.specs.Civil as spec;
 
 use arti_rows::Moment;

@@ -46,5 +46,9 @@ pub fn digits_len(text: &[u8]) -> usize
     ensures within { result ≤ length text.now }
     ensures digits { (k : ℕ) → k < result → IsAsciiDigit (slice_index text.now k) }
 {
-    text.iter().take_while(|b| b.is_ascii_digit()).count()
+    let mut len = 0;
+    while len < text.len() && text[len].is_ascii_digit() {
+        len += 1;
+    }
+    len
 }

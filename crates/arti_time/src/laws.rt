@@ -1,6 +1,6 @@
 // Laws of the texts of moments and spans.
 ghost use Rattle.std.specs.Prelude.{◌≡◌, ◌↔◌, ℤ, ℕ, List, Some};
-ghost use Rattle.arti_time.specs.Civil.{IsMoment};
+ghost use Rattle.arti_rows.specs.Moments.{IsMoment};
 ghost use Rattle.arti_time.specs.Printed.{Prints, printed};
 ghost use Rattle.arti_time.specs.Dates.{ReadsDate};
 ghost use Rattle.arti_time.specs.DateReader.{date_of};

@@ -1,6 +1,6 @@
 use Rattle.std.proofs.Common.{rules, string_bytes}
-use Rattle.arti_aql_parse.proofs.PrintTexts.{pushed_plain}
+use Rattle.arti_json.specs.EscapeLaws.{quoted-plain}
 use Rattle.arti_aql_parse.proofs.print_parts.push_plain.Goals as goal
 
 pub returns : goal.returns
-returns c = rw (← pushed_plain (string_bytes c.args.out.now) c.args.text.now c.requires) (search rules)
+returns c = rw (← quoted-plain (string_bytes c.args.out.now) c.args.text.now c.requires) (search rules)

@@ -11,8 +11,8 @@ returns-in-Err-clause-too_large c = λ large.
     let begun : c.in_ok-out.out.items ≡ codes "{\"results\":[" = search rules in
     front_long (facts_of_rows c.args.rows.now) reply_room (subst (λ (l : List ℕ). reply_room < length (l ++ with_commas (map row_text (facts_of_rows c.args.rows.now)))) begun (c.in-Err.ensures.too_large (same_fault _ _ large)))
 
-pub returns-then-len-gt-REPLY_ROOM-clause-too_large : goal.returns-then-len-gt-REPLY_ROOM-clause-too_large
-returns-then-len-gt-REPLY_ROOM-clause-too_large c = λ _.
+pub returns-then-len-gt-MOST_REPLY-clause-too_large : goal.returns-then-len-gt-MOST_REPLY-clause-too_large
+returns-then-len-gt-MOST_REPLY-clause-too_large c = λ _.
     let begun : c.in_ok-out.out.items ≡ codes "{\"results\":[" = search rules in
     let rows : c.write_rows.new.out.items ≡ c.in_ok-out.out.items ++ with_commas (map row_text (facts_of_rows c.args.rows.now)) = search rules in
     let behind : c.write_end.new.out.items ≡ c.write_rows.new.out.items ++ (codes "],\"range\":" ++ (range_text 0 None (length c.args.rows.now) ++ codes "}")) = search rules in
