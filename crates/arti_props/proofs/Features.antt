@@ -8,18 +8,23 @@ use Rattle.std.specs.BTreeMap.{is_at}
 use Rattle.std.proofs.lemmas.Map.Text.{is_eq-slice_cmp}
 use Rattle.std.proofs.lemmas.Slice.Eq.{bytes_eq-Decides}
 use Rattle.arti_rows.specs.declared.rows.Digests.{Digests}
+use Rattle.std.specs.Prelude.{String}
+use Rattle.std.specs.BTreeMap.{BTreeMap}
+use Rattle.std.specs.declared.alloc.Global.{Global}
+use Rattle.arti_ids.specs.Ids.{with_id}
+use Rattle.arti_ids.specs.declared.text_lists.TextLists.{TextLists}
 use Rattle.arti_props.specs.declared.index.Index.{Index}
-use Rattle.arti_props.specs.Ids.{IdList}
-use Rattle.arti_props.specs.Lists.{ids_of, IsReady}
-use Rattle.arti_props.specs.declared.lists.Lists.{Lists as Kept_lists}
-use Rattle.arti_props.specs.Found.{found as found_by}
+use Rattle.arti_ids.specs.Ids.{IdList}
+use Rattle.arti_ids.specs.Lists.{ids_of, IsReady}
+use Rattle.arti_ids.specs.declared.lists.Lists.{Lists as Kept_lists}
+use Rattle.arti_ids.specs.Found.{found as found_by}
 use Rattle.arti_props.specs.Rows.{Feature, Pair, Md5, Sha1, Sha256, has_digest, has}
 use Rattle.arti_props.specs.declared.row.Row.{Row}
 use Rattle.std.specs.Option.{option_map_or}
 use Rattle.std.proofs.lemmas.Bool.{false≢true}
 use Rattle.arti_props.specs.Asked.{list_of}
-use Rattle.arti_props.specs.Lists.{list_in}
-use Rattle.arti_props.proofs.Updates.{no_entries}
+use Rattle.arti_props.specs.Lists.{list_in, list_at}
+use Rattle.arti_ids.specs.TextMapLaws.{no_entries}
 
 abbrev pub Lists : Type 0
 Lists = Kept_lists (List ℕ)
@@ -86,3 +91,11 @@ ready_all id digests index md5 sha1 sha256 (Pair k v) has = absurd (false≢true
 ready_all id digests index md5 sha1 sha256 (Md5 d) has = ready_of id index.md5s digests.md5 d md5 has
 ready_all id digests index md5 sha1 sha256 (Sha1 d) has = ready_of id index.sha1s digests.sha1 d sha1 has
 ready_all id digests index md5 sha1 sha256 (Sha256 d) has = ready_of id index.sha256s digests.sha256 d sha256 has
+
+-- an id comes back into the list of each feature where it does into those of pairs
+pub pair_others : (id : ℕ) (old : Index) (values : BTreeMap (String Global) TextLists) → ((k v : List ℕ) → with_id id (ids_of (list_at values k v)) ≡ with_id id (ids_of (list_at old.values k v)))
+    → (f : Feature) → with_id id (ids_of (list_of (record old { values = values }) f)) ≡ with_id id (ids_of (list_of old f))
+pair_others id old values others (Pair k v) = others k v
+pair_others id old values others (Md5 d) = refl
+pair_others id old values others (Sha1 d) = refl
+pair_others id old values others (Sha256 d) = refl

@@ -1,5 +1,3 @@
-mod Order
-mod Updates
 mod Pairs
 mod Features
 mod RowLists

@@ -13,10 +13,9 @@ use Rattle.std.proofs.lemmas.List.Elements.{All-head, All-tail, All-cons, All-ni
 use Rattle.std.proofs.lemmas.Map.Keys.{sorted_head, sorted_tail}
 use Rattle.std.proofs.lemmas.Cmp.{ranked}
 use Rattle.arti_props.specs.declared.row.Row.{Row}
-use Rattle.arti_props.specs.Ids.{Ascends, lower, higher, with_id, without_id}
+use Rattle.arti_ids.specs.Ids.{Ascends, lower, higher, with_id, without_id}
 use Rattle.arti_props.specs.Rows.{set_row, drop_row, ids_where}
-use Rattle.arti_props.proofs.Order.{all_map, all_over, mid_cons, low_cons}
-use Rattle.arti_props.proofs.Pairs.{with_without}
+use Rattle.arti_ids.specs.IdLaws.{all_map, all_over, mid_cons, low_cons}
 
 abbrev pub Entry : Type 0
 Entry = ℕ × Row
@@ -167,22 +166,26 @@ module _ (t : Row → Bool) where
   absent id [] up none = refl
   absent id (e ∷ es) up none = absent_by id e es up (nat_cmp id e.0) refl none (absent id es up.1)
 
-  module _ (id : ℕ) (es : List Entry) (up : Ascends id_of es) (old : Option Row) (found : old ≡ lookup (is_at (nat_cmp id)) es) (i1 i2 : List ℕ) (was : i1 ≡ ids_where t es) (gone : i2 ≡ cond (option_map_or t old false) (without_id id i1) i1) where
-    gone_by : (b : Bool) → option_map_or t old false ≡ b → i2 ≡ without_id id (ids_where t es)
-    gone_by true has = gone ∙ ap (λ x. cond x (without_id id i1) i1) has ∙ ap (without_id id) was
-    gone_by false has = gone ∙ ap (λ x. cond x (without_id id i1) i1) has ∙ was ∙ sym (absent id es up (ap (λ o. option_map_or t o false) (sym found) ∙ has))
+  module _ (id : ℕ) (es : List Entry) (up : Ascends id_of es) (old : Option Row) (found : old ≡ lookup (is_at (nat_cmp id)) es) (i1 i2 : List ℕ) (was : i1 ≡ ids_where t es) where
+    abbrev Gone : Type 0
+    Gone = i2 ≡ cond (option_map_or t old false) (without_id id i1) i1
 
-    gone_is : i2 ≡ without_id id (ids_where t es)
-    gone_is = gone_by (option_map_or t old false) refl
+    gone_by : (b : Bool) → option_map_or t old false ≡ b → Gone → i2 ≡ without_id id (ids_where t es)
+    gone_by true has gone = gone ∙ ap (λ x. cond x (without_id id i1) i1) has ∙ ap (without_id id) was
+    gone_by false has gone = gone ∙ ap (λ x. cond x (without_id id i1) i1) has ∙ was ∙ sym (absent id es up (ap (λ o. option_map_or t o false) (sym found) ∙ has))
+
+    gone_is : Gone → i2 ≡ without_id id (ids_where t es)
+    gone_is gone = gone_by (option_map_or t old false) refl gone
 
     -- after a row is taken away
-    pub after_drop : i2 ≡ ids_where t (drop_row id es)
-    after_drop = gone_is ∙ sym (ids_drop id es)
+    pub after_drop : Gone → i2 ≡ ids_where t (drop_row id es)
+    after_drop gone = gone_is gone ∙ sym (ids_drop id es)
 
-    set_by : (row : Row) (i3 : List ℕ) (b : Bool) → t row ≡ b → i3 ≡ cond (t row) (with_id id i2) i2 → i3 ≡ ids_where t (set_row id row es)
-    set_by row i3 true is new = new ∙ ap (λ x. cond x (with_id id i2) i2) is ∙ ap (with_id id) gone_is ∙ with_without id (ids_where t es) ∙ sym (ids_set id row es true is)
-    set_by row i3 false is new = new ∙ ap (λ x. cond x (with_id id i2) i2) is ∙ gone_is ∙ sym (ids_set id row es false is)
+    module _ (row : Row) (others : with_id id i2 ≡ with_id id i1) (gone : t row ≡ false → Gone) where
+      set_by : (i3 : List ℕ) (b : Bool) → t row ≡ b → i3 ≡ cond (t row) (with_id id i2) i2 → i3 ≡ ids_where t (set_row id row es)
+      set_by i3 true is new = new ∙ ap (λ x. cond x (with_id id i2) i2) is ∙ others ∙ ap (with_id id) was ∙ sym (ids_set id row es true is)
+      set_by i3 false is new = new ∙ ap (λ x. cond x (with_id id i2) i2) is ∙ gone_is (gone is) ∙ sym (ids_set id row es false is)
 
-    -- after a row is put in its place
-    pub after_set : (row : Row) (i3 : List ℕ) → i3 ≡ cond (t row) (with_id id i2) i2 → i3 ≡ ids_where t (set_row id row es)
-    after_set row i3 new = set_by row i3 (t row) refl new
+      -- after a row is put in its place. What it has may have stayed
+      pub after_set : (i3 : List ℕ) → i3 ≡ cond (t row) (with_id id i2) i2 → i3 ≡ ids_where t (set_row id row es)
+      after_set i3 new = set_by i3 (t row) refl new

@@ -7,9 +7,10 @@ use Rattle.std.specs.Map.{keys_of}
 use Rattle.std.specs.List.Sorted.{IsStrictlySortedBy}
 use Rattle.arti_props.specs.declared.row.Row.{Row}
 use Rattle.arti_props.specs.declared.index.Index.{Index}
-use Rattle.arti_props.specs.Ids.{IdList}
-use Rattle.arti_props.specs.Lists.{ids_of, list_at}
-use Rattle.arti_props.specs.Found.{found}
+use Rattle.arti_ids.specs.Ids.{IdList}
+use Rattle.arti_ids.specs.Lists.{ids_of}
+use Rattle.arti_props.specs.Lists.{list_at}
+use Rattle.arti_ids.specs.Found.{found}
 use Rattle.arti_props.specs.Rows.{Feature, Pair, Md5, Sha1, Sha256, has, ids_where}
 
 abbrev pub list_of : Index → Feature → Option IdList

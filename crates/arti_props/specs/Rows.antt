@@ -7,7 +7,7 @@ use Rattle.std.specs.Str.{bytes_eq}
 use Rattle.arti_rows.specs.declared.rows.Property.{Property}
 use Rattle.arti_rows.specs.declared.rows.Digests.{Digests}
 use Rattle.arti_props.specs.declared.row.Row.{Row}
-use Rattle.arti_props.specs.Ids.{lower, higher}
+use Rattle.arti_ids.specs.Ids.{lower, higher}
 
 -- the rows with this one in its place
 abbrev pub set_row : ℕ → Row → List (ℕ × Row) → List (ℕ × Row)

@@ -9,7 +9,7 @@ ghost use Rattle.arti_props.specs.Asked.{Stands};
 use crate::index::Index;
 use crate::row::Row;
 use crate::rows::Rows;
-use crate::{indexing, lists, values};
+use crate::{indexing, values};
 use arti_rows::{Digests, Property};
 use std::alloc::{AllocError, Global};
 use std::marker::Model;
@@ -90,7 +90,7 @@ impl Props {
         ensures ids { result.now ≡ ids_where (has (Md5 digest.now)) self.now }
         ensures ascending { IsStrictlySortedBy nat_cmp result.now }
     {
-        lists::list(&self.index.md5s, digest)
+        self.index.md5s.list(digest)
     }
 
     /// The ids of the rows whose content has the SHA-1, ascending.
@@ -98,7 +98,7 @@ impl Props {
         ensures ids { result.now ≡ ids_where (has (Sha1 digest.now)) self.now }
         ensures ascending { IsStrictlySortedBy nat_cmp result.now }
     {
-        lists::list(&self.index.sha1s, digest)
+        self.index.sha1s.list(digest)
     }
 
     /// The ids of the rows whose content has the SHA-256, ascending.
@@ -106,7 +106,7 @@ impl Props {
         ensures ids { result.now ≡ ids_where (has (Sha256 digest.now)) self.now }
         ensures ascending { IsStrictlySortedBy nat_cmp result.now }
     {
-        lists::list(&self.index.sha256s, digest)
+        self.index.sha256s.list(digest)
     }
 
     /// The rows stand in ascending order of ids, each once.
@@ -135,8 +135,9 @@ fn put(
         return Err(error);
     }
     let old = rows.put(alloc, id, row)?;
-    indexing::remove(index, old.as_ref(), id);
-    indexing::add(index, rows.get(id), id);
+    let new = rows.get(id);
+    indexing::remove(index, old.as_ref(), new, id);
+    indexing::add(index, new, id);
     indexing::tidy(index, old.as_ref());
     Ok(())
 }
@@ -148,6 +149,6 @@ fn take(rows: &mut Rows, index: &mut Index, id: u32)
     ensures dropped { rows.new ≡ drop_row id rows.old }
 {
     let old = rows.take(id);
-    indexing::remove(index, old.as_ref(), id);
+    indexing::remove(index, old.as_ref(), None, id);
     indexing::tidy(index, old.as_ref());
 }

@@ -3,3 +3,9 @@
 
 #[cfg(test)]
 mod codec;
+#[cfg(test)]
+mod ids;
+#[cfg(test)]
+mod property_texts;
+#[cfg(test)]
+mod props;

@@ -1,5 +1,5 @@
 use Rattle.std.proofs.Common.{refl}
-use Rattle.arti_props.specs.Ids.{with_id}
+use Rattle.arti_ids.specs.Ids.{with_id}
 use Rattle.arti_props.specs.Rows.{Md5, Sha1, Sha256}
 use Rattle.arti_props.proofs.Features.{same_digest, turn_all}
 use Rattle.arti_props.proofs.indexing.add_digests.Goals as goal
@@ -14,4 +14,4 @@ pub add-requires-3 : goal.add-requires-3
 add-requires-3 c = let digest = c.args.digests.now.sha256 in record { ready = c.requires.ready (Sha256 digest) (same_digest digest) }
 
 pub returns-clause-ids : goal.returns-clause-ids
-returns-clause-ids c = turn_all (with_id c.args.id) c.args.digests.now c.args.index.now (record { values = c.args.index.now.values; md5s = c.add.new.lists; sha1s = c.add-2.new.lists; sha256s = c.add-3.new.lists }) refl c.add.ensures.ids c.add-2.ensures.ids c.add-3.ensures.ids
+returns-clause-ids c = turn_all (with_id c.args.id) c.args.digests.now c.args.index.now (record { values = c.args.index.now.values; md5s = c.add.new.self; sha1s = c.add-2.new.self; sha256s = c.add-3.new.self }) refl c.add.ensures.ids c.add-2.ensures.ids c.add-3.ensures.ids

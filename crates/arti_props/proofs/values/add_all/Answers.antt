@@ -1,9 +1,11 @@
 use Rattle.std.proofs.Common.{ap, ◌∙◌}
 use Rattle.std.proofs.lemmas.List.{get_or_default}
 use Rattle.arti_rows.specs.declared.rows.Property.{Property}
-use Rattle.arti_props.specs.Ids.{with_id}
-use Rattle.arti_props.specs.Lists.{ids_of, list_at}
-use Rattle.arti_props.proofs.Pairs.{blank, any_here, step, with_twice}
+use Rattle.arti_ids.specs.Ids.{with_id}
+use Rattle.arti_ids.specs.Lists.{ids_of}
+use Rattle.arti_props.specs.Lists.{list_at}
+use Rattle.arti_ids.specs.IdLaws.{with_twice}
+use Rattle.arti_props.proofs.Pairs.{blank, any_here, step}
 use Rattle.arti_props.proofs.values.add_all.Goals as goal
 
 pub add-requires : goal.add-requires

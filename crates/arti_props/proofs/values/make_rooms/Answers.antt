@@ -2,7 +2,8 @@ use Rattle.std.proofs.Common.{◌≡◌, List, ℕ, subst, ⊎_elim, true, ap, �
 use Rattle.std.specs.List.{list_any}
 use Rattle.std.proofs.lemmas.List.{get_or_default}
 use Rattle.arti_rows.specs.declared.rows.Property.{Property}
-use Rattle.arti_props.specs.Lists.{IsReady, list_at}
+use Rattle.arti_ids.specs.Lists.{IsReady}
+use Rattle.arti_props.specs.Lists.{list_at}
 use Rattle.arti_props.specs.Rows.{is_pair}
 use Rattle.arti_props.proofs.Pairs.{blank, any_cases}
 use Rattle.arti_props.proofs.values.make_rooms.Goals as goal

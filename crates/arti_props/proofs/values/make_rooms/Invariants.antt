@@ -1,6 +1,7 @@
 use Rattle.std.proofs.Common.{◌≡◌, ℕ, List, true, take}
 use Rattle.std.specs.List.{list_any}
-use Rattle.arti_props.specs.Lists.{ids_of, IsReady, list_at}
+use Rattle.arti_ids.specs.Lists.{ids_of, IsReady}
+use Rattle.arti_props.specs.Lists.{list_at}
 use Rattle.arti_props.specs.Rows.{is_pair}
 use Rattle.arti_props.proofs.values.make_rooms.Given as goal
 

@@ -1,8 +1,9 @@
 use Rattle.std.proofs.Common.{rules, None, sym, ◌∙◌}
 use Rattle.std.specs.BTreeMap.{get_by_text}
 use Rattle.std.proofs.lemmas.Map.Text.{btree_map_updates_text}
-use Rattle.arti_props.specs.Lists.{ids_of, list_in}
-use Rattle.arti_props.proofs.Updates.{same}
+use Rattle.arti_ids.specs.Lists.{ids_of}
+use Rattle.arti_props.specs.Lists.{list_in}
+use Rattle.arti_ids.specs.TextMapLaws.{same}
 use Rattle.arti_props.proofs.values.tidy.Goals as goal
 
 pub returns-then-tidy_key : goal.returns-then-tidy_key

@@ -1,5 +1,6 @@
 use Rattle.std.proofs.Common.{◌≡◌, ℕ, List}
-use Rattle.arti_props.specs.Lists.{ids_of, list_at}
+use Rattle.arti_ids.specs.Lists.{ids_of}
+use Rattle.arti_props.specs.Lists.{list_at}
 use Rattle.arti_props.proofs.values.tidy_all.Given as goal
 
 abbrev pub invariant-loop-pair : goal.invariant-loop-pair
