@@ -5,6 +5,7 @@ use Rattle.std.specs.Prelude.{min}
 use Rattle.std.specs.Bool.{Decides}
 use Rattle.arti_ground.specs.State.{Bytes, Reads}
 use Rattle.arti_rows.specs.declared.rows.FileRef.{FileRef}
+use Rattle.arti_rows.specs.Sizes.{contents_file}
 use Rattle.arti_blobs.specs.Contents.{content}
 use Rattle.arti_blobs.proofs.Fronts.{take_both}
 
@@ -39,10 +40,10 @@ read_whole bytes before after at n read long within =
     sym (take_all n after (omega (arith, count, long))) ∙ read.front ∙ ap (λ (k : ℕ). take k (drop at bytes)) count
 
 -- what was decided of a block, at another state and length that are the same
-pub block_of : (a b : Bytes) (k n first second : ℕ) (r : Bool) → a ≡ b → k ≡ n → Decides r (take k (drop first (a 3)) ≡ take k (drop second (a 3))) → Decides r (take n (drop first (b 3)) ≡ take n (drop second (b 3)))
+pub block_of : (a b : Bytes) (k n first second : ℕ) (r : Bool) → a ≡ b → k ≡ n → Decides r (take k (drop first (a contents_file)) ≡ take k (drop second (a contents_file))) → Decides r (take n (drop first (b contents_file)) ≡ take n (drop second (b contents_file)))
 block_of a b k n first second r same long decides =
-    subst (λ (c : Bytes). Decides r (take n (drop first (c 3)) ≡ take n (drop second (c 3)))) same
-    (subst (λ (m : ℕ). Decides r (take m (drop first (a 3)) ≡ take m (drop second (a 3)))) long decides)
+    subst (λ (c : Bytes). Decides r (take n (drop first (c contents_file)) ≡ take n (drop second (c contents_file)))) same
+    (subst (λ (m : ℕ). Decides r (take m (drop first (a contents_file)) ≡ take m (drop second (a contents_file)))) long decides)
 
 pub content_length : (bytes : List ℕ) (file : FileRef) → file.place + file.len ≤ length bytes → length (content bytes file) ≡ file.len
 content_length bytes file within = length-take-le file.len (drop file.place bytes) (omega (arith, within, length-drop file.place bytes))

@@ -2,6 +2,7 @@
 use Rattle.std.proofs.Common.{◌≡◌, ℕ, ◌+◌, ◌-◌, ◌≤◌, List, ◌++◌, length, take, drop, refl, sym, ◌∙◌, ap, arith, append_assoc, length-append, take-append-drop}
 use Rattle.std.proofs.lemmas.List.{take_at, drop_at, drop-take, take-take, length-take-le}
 use Rattle.arti_rows.specs.declared.rows.FileRef.{FileRef}
+use Rattle.arti_rows.specs.Sizes.{contents_file}
 use Rattle.arti_ground.specs.State.{Bytes, State, Holds, Torn, In, Follows, Passes, DiskTime}
 use Rattle.arti_ground.specs.Moments.{passes_map}
 use Rattle.arti_blobs.specs.Contents.{content, KeepsFront, Behind}
@@ -16,13 +17,13 @@ module _ (end at n : ℕ) (le : end ≤ at) where
   torn_front : (old new : List ℕ) → Torn at n old new → take end new ≡ take end old
   torn_front old new torn = sym (take-take end at new le) ∙ ap (λ (l : List ℕ). take end l) torn.before ∙ take-take end at old le
 
-  pub torn_keeps : (a b : Bytes) → In 3 (Torn at n) a b → KeepsFront end a b
-  torn_keeps a b torn = record { here = torn_front (a 3) (b 3) torn.here; others = torn.others }
+  pub torn_keeps : (a b : Bytes) → In contents_file (Torn at n) a b → KeepsFront end a b
+  torn_keeps a b torn = record { here = torn_front (a contents_file) (b contents_file) torn.here; others = torn.others }
 
-  pub images_keep : (old new : State) → Follows (In 3 (Torn at n)) old new → Follows (KeepsFront end) old new
+  pub images_keep : (old new : State) → Follows (In contents_file (Torn at n)) old new → Follows (KeepsFront end) old new
   images_keep old new follows c left = let was = follows c left in (was.0, was.1, torn_keeps was.0 c was.2)
 
-  pub moments_behind : (old new : State) → Follows (In 3 (Torn at n)) old new → DiskTime old new → Passes old new (Behind old end)
+  pub moments_behind : (old new : State) → Follows (In contents_file (Torn at n)) old new → DiskTime old new → Passes old new (Behind old end)
   moments_behind old new follows time = passes_map old new _ (Behind old end) (λ c w here.
       let was = follows c here.0 in
       record { told = here.1; from = was.0; was = was.1; front = torn_keeps was.0 c was.2 }) time

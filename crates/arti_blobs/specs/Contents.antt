@@ -2,6 +2,7 @@
 use Rattle.std.specs.Prelude.{◌≡◌, ◌⊎◌, ℕ, ◌+◌, ◌≤◌, List, [], ◌∷◌, ◌++◌, length, take, drop, sum_by, AllPairs, Contains, Option, None, Some, IsSomeAnd, if◌then◌else◌}
 use Rattle.arti_rows.specs.declared.rows.Digests.{Digests}
 use Rattle.arti_rows.specs.declared.rows.FileRef.{FileRef}
+use Rattle.arti_rows.specs.Sizes.{contents_file}
 use Rattle.arti_ground.specs.State.{Bytes, State, In}
 use Rattle.arti_blobs.specs.declared.staging.Staging.{Staging}
 use Rattle.arti_blobs.specs.declared.staging.Staged.{Staged}
@@ -58,16 +59,16 @@ staged_length (Some s) = s.len
 
 -- the file has the kept contents and as many bytes behind them as are staged
 abbrev pub HoldsContents : State → Contents → Type 0
-HoldsContents s b = end_of b.kept + staged_length b.staging ≤ length (s.files 3)
+HoldsContents s b = end_of b.kept + staged_length b.staging ≤ length (s.files contents_file)
 
 -- these bytes are staged, and stand in the file behind the kept contents
 pub record HoldsStaged (s : State) (b : Contents) (bytes : List ℕ) : Type 0 where
   pub staged : Stages b bytes
-  pub there : take (length bytes) (drop (end_of b.kept) (s.files 3)) ≡ bytes
+  pub there : take (length bytes) (drop (end_of b.kept) (s.files contents_file)) ≡ bytes
 
 -- the file's bytes up to the end of the kept contents stay, and so do the other files
 abbrev pub KeepsFront : ℕ → Bytes → Bytes → Type 0
-KeepsFront end = In 3 (λ old new. take end new ≡ take end old)
+KeepsFront end = In contents_file (λ old new. take end new ≡ take end old)
 
 -- at a moment of a staging: as much was told as at the start, and the image is one from the start but behind the kept contents
 pub record Behind (start : State) (end : ℕ) (c w : Bytes) : Type 0 where

@@ -1,17 +1,18 @@
 // Contents, each kept once.
 ghost use Rattle.std.specs.Prelude.{◌≡◌, ◌≢◌, ◌↔◌, ◌+◌, ◌^◌, ◌<◌, ◌≤◌, ℕ, false, List, [], ◌++◌, length, take, All, Contains, Err, None, IsTrue, IsSome, IfOk, OnOk, OnErr, IsErrOf, IfSome};
+ghost use Rattle.arti_rows.specs.DigestsOf.{digests_of};
+ghost use Rattle.arti_rows.specs.Sizes.{contents_file};
 ghost use Rattle.arti_rows.specs.declared.rows.FileRef.{FileRef};
 ghost use Rattle.arti_ground.specs.State.{State, Reads, Follows, Passes, OnlyReads, HasCause, Rose};
-ghost use Rattle.arti_blobs.specs.Digests.{digests_of};
 ghost use Rattle.arti_blobs.specs.Contents.{Contents, content, end_of, Keeps, HasPair, AllDiffer, kept_with, Stages, staged_length, HoldsContents, HoldsStaged, KeepsFront, Behind};
 ghost use Rattle.arti_blobs.specs.Chains.{Adds, FollowsNot};
 
-use crate::comparing::{BLOCK, CONTENTS, all_differ, find_same};
+use crate::comparing::{BLOCK, all_differ, find_same};
 use crate::index::Index;
 use crate::staging::{Staged, Staging};
 use crate::{KeepFault, StageFault};
 use arti_ground::Ground;
-use arti_rows::FileRef;
+use arti_rows::{CONTENTS_FILE, FileRef};
 use std::alloc::{AllocError, Global};
 use std::marker::Model;
 
@@ -94,7 +95,7 @@ impl Blobs {
     /// Whether no two kept contents have the same bytes and the same digests. Contents are compared in blocks.
     pub fn all_differ<G: Ground>(&mut self, outside: &mut G) -> Result<bool, StageFault>
         requires holds { G.tells → HoldsContents (G.state outside.old) self.old }
-        ensures differ { G.tells → IfOk result (λ b. IsTrue b ↔ AllDiffer ((G.state outside.old).files 3) self.old.kept) }
+        ensures differ { G.tells → IfOk result (λ b. IsTrue b ↔ AllDiffer ((G.state outside.old).files contents_file) self.old.kept) }
         ensures unchanged { self.new ≡ self.old }
         ensures reads { G.tells → OnlyReads (G.state outside.old) (G.state outside.new) }
         ensures device { OnErr result (result ≡ Err StageFault.Device) }
@@ -149,7 +150,7 @@ impl Blobs {
         if staging.len > max || piece.len() as u64 > max - staging.len {
             return Err(StageFault::TooLarge);
         }
-        outside.write_at(CONTENTS, self.end + staging.len, piece)?;
+        outside.write_at(CONTENTS_FILE, self.end + staging.len, piece)?;
         staging.take(piece);
         self.staging = Some(staging);
         Ok(())
@@ -164,9 +165,9 @@ impl Blobs {
         ensures length { IfOk result (λ s. s.file.len ≡ staged_length self.old.staging) }
         ensures digests { (bytes : List ℕ) → Stages self.old bytes → IfOk result (λ s. s.file.digests ≡ digests_of bytes) }
         ensures content { G.tells → (bytes : List ℕ) → HoldsStaged (G.state outside.old) self.old bytes
-            → IfOk result (λ s. content ((G.state outside.new).files 3) s.file ≡ bytes) }
+            → IfOk result (λ s. content ((G.state outside.new).files contents_file) s.file ≡ bytes) }
         ensures fresh { G.tells → (bytes : List ℕ) → HoldsStaged (G.state outside.old) self.old bytes
-            → IfOk result (λ s. s.fresh ≡ false ↔ HasPair ((G.state outside.old).files 3) self.old.kept bytes (digests_of bytes)) }
+            → IfOk result (λ s. s.fresh ≡ false ↔ HasPair ((G.state outside.old).files contents_file) self.old.kept bytes (digests_of bytes)) }
         ensures kept { IfOk result (λ s. s.fresh ≡ false → Contains self.old.kept s.file) }
         ensures place { IfOk result (λ s. IsTrue s.fresh → s.file.place ≡ end_of self.old.kept) }
         ensures short { IfOk result (λ s. end_of (kept_with self.old.kept s) < 2 ^ 63) }
@@ -229,7 +230,7 @@ impl Blobs {
         requires kept { Contains self.old.kept file.now }
         requires holds { G.tells → HoldsContents (G.state outside.old) self.old }
         ensures within { IfOk result (λ n. n ≤ length buf.old) }
-        ensures bytes { G.tells → IfOk result (Reads (content ((G.state outside.old).files 3) file.now) at buf.old buf.new) }
+        ensures bytes { G.tells → IfOk result (Reads (content ((G.state outside.old).files contents_file) file.now) at buf.old buf.new) }
         ensures unchanged { self.new ≡ self.old }
         ensures holds { G.tells → HoldsContents (G.state outside.new) self.new }
         ensures reads { G.tells → OnlyReads (G.state outside.old) (G.state outside.new) }
@@ -242,7 +243,7 @@ impl Blobs {
             return Ok(0);
         }
         let n = (file.len - at).min(buf.len() as u64) as usize;
-        Ok(outside.read(CONTENTS, file.place + at, &mut buf[..n])?)
+        Ok(outside.read(CONTENTS_FILE, file.place + at, &mut buf[..n])?)
     }
 }
 

@@ -1,5 +1,6 @@
 // Contents are compared by their bytes, in blocks.
 ghost use Rattle.std.specs.Prelude.{◌≡◌, ◌↔◌, ◌+◌, ◌^◌, ◌<◌, ◌≤◌, length, take, drop, Contains, None, false, IsTrue, IfOk, IfSome};
+ghost use Rattle.arti_rows.specs.Sizes.{contents_file};
 ghost use Rattle.arti_rows.specs.declared.rows.FileRef.{FileRef};
 ghost use Rattle.arti_ground.specs.State.{State, OnlyReads, HasCause};
 ghost use Rattle.arti_blobs.specs.Contents.{IsSame, AllDiffer};
@@ -7,10 +8,7 @@ ghost use Rattle.arti_blobs.specs.Chains.{HasEarlier};
 
 use crate::index::Index;
 use arti_ground::{Failed, Ground};
-use arti_rows::FileRef;
-
-/// The number of the contents file.
-pub(crate) const CONTENTS: u32 = 3;
+use arti_rows::{CONTENTS_FILE, FileRef};
 
 /// How many bytes are compared at once.
 pub(crate) const BLOCK: usize = 65_536;
@@ -24,15 +22,15 @@ fn same_block<G: Ground>(
     other: &mut [u8],
 ) -> Result<bool, Failed>
     requires long { length other.old ≡ length one.old }
-    requires first { G.tells → first + length one.old ≤ length ((G.state outside.old).files 3) }
-    requires second { G.tells → second + length one.old ≤ length ((G.state outside.old).files 3) }
-    ensures same { G.tells → IfOk result (λ b. IsTrue b ↔ (take (length one.old) (drop first ((G.state outside.old).files 3)) ≡ take (length one.old) (drop second ((G.state outside.old).files 3)))) }
+    requires first { G.tells → first + length one.old ≤ length ((G.state outside.old).files contents_file) }
+    requires second { G.tells → second + length one.old ≤ length ((G.state outside.old).files contents_file) }
+    ensures same { G.tells → IfOk result (λ b. IsTrue b ↔ (take (length one.old) (drop first ((G.state outside.old).files contents_file)) ≡ take (length one.old) (drop second ((G.state outside.old).files contents_file)))) }
     ensures reads { G.tells → OnlyReads (G.state outside.old) (G.state outside.new) }
     ensures cause { HasCause (G.disk_faults outside.old) (G.disk_faults outside.new) result }
     ensures tell_faults { G.tell_faults outside.new ≡ G.tell_faults outside.old }
 {
-    let n = outside.read(CONTENTS, first, one)?;
-    let m = outside.read(CONTENTS, second, other)?;
+    let n = outside.read(CONTENTS_FILE, first, one)?;
+    let m = outside.read(CONTENTS_FILE, second, other)?;
     Ok(n == one.len() && m == n && *one == *other)
 }
 
@@ -50,9 +48,9 @@ pub(crate) fn same_bytes<G: Ground>(
     requires long { length other.old ≡ length one.old }
     requires first_fits { first + len < 2 ^ 63 }
     requires second_fits { second + len < 2 ^ 63 }
-    requires first { G.tells → first + len ≤ length ((G.state outside.old).files 3) }
-    requires second { G.tells → second + len ≤ length ((G.state outside.old).files 3) }
-    ensures same { G.tells → IfOk result (λ b. IsTrue b ↔ (take len (drop first ((G.state outside.old).files 3)) ≡ take len (drop second ((G.state outside.old).files 3)))) }
+    requires first { G.tells → first + len ≤ length ((G.state outside.old).files contents_file) }
+    requires second { G.tells → second + len ≤ length ((G.state outside.old).files contents_file) }
+    ensures same { G.tells → IfOk result (λ b. IsTrue b ↔ (take len (drop first ((G.state outside.old).files contents_file)) ≡ take len (drop second ((G.state outside.old).files contents_file)))) }
     ensures reads { G.tells → OnlyReads (G.state outside.old) (G.state outside.new) }
     ensures cause { HasCause (G.disk_faults outside.old) (G.disk_faults outside.new) result }
     ensures tell_faults { G.tell_faults outside.new ≡ G.tell_faults outside.old }
@@ -86,13 +84,13 @@ pub(crate) fn find_same<G: Ground>(
     requires long { length other.old ≡ length one.old }
     requires fits { wanted.now.place + wanted.now.len < 2 ^ 63 }
     requires kept { (file : FileRef) → Contains index.now file → file.place + file.len < 2 ^ 63 }
-    requires reach { G.tells → wanted.now.place + wanted.now.len ≤ length ((G.state outside.old).files 3) }
-    requires holds { G.tells → (file : FileRef) → Contains index.now file → file.place + file.len ≤ length ((G.state outside.old).files 3) }
+    requires reach { G.tells → wanted.now.place + wanted.now.len ≤ length ((G.state outside.old).files contents_file) }
+    requires holds { G.tells → (file : FileRef) → Contains index.now file → file.place + file.len ≤ length ((G.state outside.old).files contents_file) }
     ensures kept { IfOk result (λ r. IfSome r (λ file. Contains index.now file)) }
     ensures length { IfOk result (λ r. IfSome r (λ file. file.len ≡ wanted.now.len)) }
     ensures digests { IfOk result (λ r. IfSome r (λ file. file.digests ≡ wanted.now.digests)) }
-    ensures same { G.tells → IfOk result (λ r. IfSome r (λ file. IsSame ((G.state outside.old).files 3) wanted.now file)) }
-    ensures none { G.tells → IfOk result (λ r. r ≡ None → (file : FileRef) → Contains index.now file → IsSame ((G.state outside.old).files 3) wanted.now file → ⊥) }
+    ensures same { G.tells → IfOk result (λ r. IfSome r (λ file. IsSame ((G.state outside.old).files contents_file) wanted.now file)) }
+    ensures none { G.tells → IfOk result (λ r. r ≡ None → (file : FileRef) → Contains index.now file → IsSame ((G.state outside.old).files contents_file) wanted.now file → ⊥) }
     ensures reads { G.tells → OnlyReads (G.state outside.old) (G.state outside.new) }
     ensures cause { HasCause (G.disk_faults outside.old) (G.disk_faults outside.new) result }
     ensures tell_faults { G.tell_faults outside.new ≡ G.tell_faults outside.old }
@@ -118,8 +116,8 @@ pub(crate) fn all_differ<G: Ground>(
     requires some { 1 ≤ length one.old }
     requires long { length other.old ≡ length one.old }
     requires kept { (file : FileRef) → Contains index.now file → file.place + file.len < 2 ^ 63 }
-    requires holds { G.tells → (file : FileRef) → Contains index.now file → file.place + file.len ≤ length ((G.state outside.old).files 3) }
-    ensures differ { G.tells → IfOk result (λ b. IsTrue b ↔ AllDiffer ((G.state outside.old).files 3) index.now) }
+    requires holds { G.tells → (file : FileRef) → Contains index.now file → file.place + file.len ≤ length ((G.state outside.old).files contents_file) }
+    ensures differ { G.tells → IfOk result (λ b. IsTrue b ↔ AllDiffer ((G.state outside.old).files contents_file) index.now) }
     ensures reads { G.tells → OnlyReads (G.state outside.old) (G.state outside.new) }
     ensures cause { HasCause (G.disk_faults outside.old) (G.disk_faults outside.new) result }
     ensures tell_faults { G.tell_faults outside.new ≡ G.tell_faults outside.old }
@@ -145,9 +143,9 @@ fn has_earlier<G: Ground>(
     requires long { length other.old ≡ length one.old }
     requires at { at < length index.now }
     requires kept { (file : FileRef) → Contains index.now file → file.place + file.len < 2 ^ 63 }
-    requires holds { G.tells → (file : FileRef) → Contains index.now file → file.place + file.len ≤ length ((G.state outside.old).files 3) }
-    ensures found { G.tells → IfOk result (λ b. IsTrue b → HasEarlier ((G.state outside.old).files 3) index.now at) }
-    ensures none { G.tells → IfOk result (λ b. b ≡ false → HasEarlier ((G.state outside.old).files 3) index.now at → ⊥) }
+    requires holds { G.tells → (file : FileRef) → Contains index.now file → file.place + file.len ≤ length ((G.state outside.old).files contents_file) }
+    ensures found { G.tells → IfOk result (λ b. IsTrue b → HasEarlier ((G.state outside.old).files contents_file) index.now at) }
+    ensures none { G.tells → IfOk result (λ b. b ≡ false → HasEarlier ((G.state outside.old).files contents_file) index.now at → ⊥) }
     ensures reads { G.tells → OnlyReads (G.state outside.old) (G.state outside.new) }
     ensures cause { HasCause (G.disk_faults outside.old) (G.disk_faults outside.new) result }
     ensures tell_faults { G.tell_faults outside.new ≡ G.tell_faults outside.old }
@@ -176,11 +174,11 @@ fn is_same<G: Ground>(
     requires long { length other.old ≡ length one.old }
     requires first_fits { file.now.place + file.now.len < 2 ^ 63 }
     requires second_fits { wanted.now.place + wanted.now.len < 2 ^ 63 }
-    requires first { G.tells → file.now.place + file.now.len ≤ length ((G.state outside.old).files 3) }
-    requires second { G.tells → wanted.now.place + wanted.now.len ≤ length ((G.state outside.old).files 3) }
+    requires first { G.tells → file.now.place + file.now.len ≤ length ((G.state outside.old).files contents_file) }
+    requires second { G.tells → wanted.now.place + wanted.now.len ≤ length ((G.state outside.old).files contents_file) }
     ensures length { IfOk result (λ b. IsTrue b → file.now.len ≡ wanted.now.len) }
     ensures digests { IfOk result (λ b. IsTrue b → file.now.digests ≡ wanted.now.digests) }
-    ensures same { G.tells → IfOk result (λ b. IsTrue b ↔ IsSame ((G.state outside.old).files 3) wanted.now file.now) }
+    ensures same { G.tells → IfOk result (λ b. IsTrue b ↔ IsSame ((G.state outside.old).files contents_file) wanted.now file.now) }
     ensures reads { G.tells → OnlyReads (G.state outside.old) (G.state outside.new) }
     ensures cause { HasCause (G.disk_faults outside.old) (G.disk_faults outside.new) result }
     ensures tell_faults { G.tell_faults outside.new ≡ G.tell_faults outside.old }

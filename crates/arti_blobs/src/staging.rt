@@ -1,6 +1,7 @@
 // A content that is taken in piece by piece, and its three digests.
 ghost use Rattle.std.specs.Prelude.{◌≡◌, ◌+◌, ◌^◌, ◌<◌, ℕ, List, [], ◌++◌, length};
-ghost use Rattle.arti_blobs.specs.Digests.{digests_of, HasTaken, Has};
+ghost use Rattle.arti_rows.specs.DigestsOf.{digests_of};
+ghost use Rattle.arti_blobs.specs.Digests.{HasTaken, Has};
 
 use arti_rows::{Digests, FileRef};
 use md5::{Digest as MdDigest, Md5};

@@ -5,13 +5,7 @@ use Rattle.std.proofs.Math.Seq.{take-append_seam, drop-append_seam}
 use Rattle.httparse.specs.Grammar.{RequestHead}
 use Rattle.httparse.proofs.GrammarLemmas.{request_unique}
 use Rattle.arti_model.specs.declared.Why.{Why}
-use Rattle.arti_model.specs.Requests.{Request, Whole, Ending, End, Cut, Bad, TooMany, Start, AtEnd, AtCut, AtBad, Head, StartsWithHead, HasNoHead, start_with, start_without, is_line_byte, StartsAt, skip, Begins, EndsSo, RequestBytes}
-
--- what stands behind the line ends that are passed over
-abbrev HeadOrNone : ℕ → List ℕ → Start → Type 0
-HeadOrNone content bytes start =
-    ((h : RequestHead) × (rest : List ℕ) × StartsWithHead bytes h rest × (start ≡ start_with content h rest))
-    ⊎ (HasNoHead bytes × (start ≡ start_without bytes))
+use Rattle.arti_model.specs.Requests.{Request, Whole, Ending, End, Cut, Bad, TooMany, Start, AtEnd, AtCut, AtBad, Head, StartsWithHead, HasNoHead, start_with, HeadOrNone, is_line_byte, StartsAt, skip, Begins, EndsSo, RequestBytes}
 
 same_head : (content : ℕ) (bytes : List ℕ) (s t : Start) → HeadOrNone content bytes s → HeadOrNone content bytes t → s ≡ t
 same_head content bytes s t (inl x) (inl y) =

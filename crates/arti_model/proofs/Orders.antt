@@ -3,15 +3,11 @@ use Rattle.std.proofs.Common.{◌≡◌, zero, suc, Bool, true, List, [], ◌∷
 use Rattle.std.specs.Prelude.{All, filter}
 use Rattle.std.specs.List.{AllPairs}
 use Rattle.std.specs.Ordering.{is_lt}
-use Rattle.std.specs.Cmp.{IsTotalOrder}
-use Rattle.std.proofs.lemmas.Cmp.{then_total, on_total, nat_list_cmp_total}
 use Rattle.std.proofs.lemmas.List.Elements.{All-cons, All-head, All-tail, All-append, All-weaker, filter_passes}
 use Rattle.std.proofs.lemmas.List.Kept.{AllPairs-cons, AllPairs-filter}
-use Rattle.arti_rows.specs.Key.{Key, key_cmp}
+use Rattle.arti_rows.specs.Key.{key_cmp}
+use Rattle.arti_rows.specs.KeyLaws.{key_cmp-total}
 use Rattle.arti_model.specs.Store.{Item, InDefaultOrder, put_item}
-
-total : IsTotalOrder key_cmp
-total = then_total (on_total (λ (k : Key). k.repo) nat_list_cmp_total) (then_total (on_total (λ (k : Key). k.path) nat_list_cmp_total) (on_total (λ (k : Key). k.name) nat_list_cmp_total))
 
 abbrev Before : Item → Item → Type 0
 Before a b = key_cmp a.key b.key ≡ Less
@@ -42,7 +38,7 @@ put_in_order new items order =
     let behind : All (λ y. Before new y) (filter more items) = All-weaker (λ y. more y ≡ true) (λ y. Before new y) (λ y e. less_by (key_cmp new.key y.key) e) (filter more items) (filter_passes more items) in
     pairs_append Before (filter less items) (new ∷ filter more items)
     (All-weaker (λ x. Before x new) (λ x. All (Before x) (new ∷ filter more items))
-    (λ x e. All-cons (Before x) new (filter more items) e (All-weaker (λ y. Before new y) (Before x) (λ y f. total.trans x.key new.key y.key e f) (filter more items) behind))
+    (λ x e. All-cons (Before x) new (filter more items) e (All-weaker (λ y. Before new y) (Before x) (λ y f. key_cmp-total.trans x.key new.key y.key e f) (filter more items) behind))
     (filter less items) before)
     (AllPairs-filter Before less items order)
     (AllPairs-cons Before new (filter more items) behind (AllPairs-filter Before more items order))

@@ -146,13 +146,17 @@ by_lines None size = if nat_lt size 32768 then AtCut else AtBad HeadTooLarge
 abbrev pub start_without : List ℕ → Start
 start_without bytes = by_lines (lines_before_empty (take 32768 bytes)) (length bytes)
 
+-- bytes that begin with no line end begin with a head, or with none
+abbrev pub HeadOrNone : ℕ → List ℕ → Start → Type 0
+HeadOrNone content bytes start =
+    ((h : RequestHead) × (rest : List ℕ) × StartsWithHead bytes h rest × (start ≡ start_with content h rest))
+    ⊎ (HasNoHead bytes × (start ≡ start_without bytes))
+
 -- the start of bytes whose first line ends were passed over
 abbrev pub StartsAt : ℕ → List ℕ → Start → Type 0
 StartsAt content [] start = start ≡ AtEnd
 StartsAt content (b ∷ bytes) start =
-    MatchBool (is_line_byte b) (start ≡ AtBad BadHead) (
-    ((h : RequestHead) × (rest : List ℕ) × StartsWithHead (b ∷ bytes) h rest × (start ≡ start_with content h rest))
-    ⊎ (HasNoHead (b ∷ bytes) × (start ≡ start_without (b ∷ bytes))))
+    MatchBool (is_line_byte b) (start ≡ AtBad BadHead) (HeadOrNone content (b ∷ bytes) start)
 
 -- what the bytes begin with: up to 1,024 CRs and LFs are passed over
 abbrev pub Begins : ℕ → List ℕ → Start → Type 0

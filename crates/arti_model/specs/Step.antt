@@ -2,13 +2,11 @@
 use Rattle.std.specs.Prelude.{ℕ, ◌+◌, ℤ, Bool, not, ◌&&◌, ◌||◌, nat_eq, nat_le, nat_lt, if◌then◌else◌, List, [], ◌∷◌, ◌++◌, length, drop, codes, decimal, Option, Some, None, is_none, is_some, option_and_then}
 use Rattle.std.specs.List.{list_any, list_all, starts_with}
 use Rattle.std.specs.Cmp.Lexicographic.{pointwise}
-use Rattle.md5.specs.Md5.{md5}
-use Rattle.sha1.specs.Sha1.{sha1}
-use Rattle.sha2.specs.Sha256.{sha256}
 use Rattle.arti_rows.specs.Key.{Key, key_of}
 use Rattle.arti_rows.specs.Names.{is_repo_byte, path_fault}
+use Rattle.arti_rows.specs.Sizes.{most_reply}
+pub use Rattle.arti_rows.specs.DigestsOf.{digests_of}
 use Rattle.arti_rows.specs.declared.limits.Limits.{Limits}
-use Rattle.arti_rows.specs.declared.rows.Digests.{Digests}
 use Rattle.arti_rows.specs.declared.rows.SomeDigests.{SomeDigests}
 use Rattle.arti_rows.specs.declared.edits.Edit.TheVariants as edits
 use Rattle.arti_rows.specs.declared.edits.Change.{Change}
@@ -86,10 +84,6 @@ not_built q s = if has_method q (codes "HEAD") then head_not_yet s else not_yet 
 -- the user of a request that names none
 abbrev pub anonymous : List ℕ
 anonymous = codes "anonymous"
-
--- the three digests of a content
-abbrev pub digests_of : List ℕ → Digests
-digests_of content = record { md5 = md5 content; sha1 = sha1 content; sha256 = sha256 content }
 
 -- a content with the digests of its own
 abbrev pub file_of_body : List ℕ → File
@@ -180,7 +174,7 @@ is_query q = has_method q (codes "POST") && pointwise nat_eq q.target query_targ
 
 -- how many bytes the body of a reply may have
 abbrev pub reply_room : ℕ
-reply_room = 67_108_864
+reply_room = most_reply
 
 -- a query's reply, where it isn't too large
 abbrev pub queried : List ℕ → List ℕ

@@ -53,9 +53,13 @@ fills_blobs limits kept next = nat_lt (length kept) (length next) && nat_lt limi
 abbrev pub body_length : Change → ℕ
 body_length change = length (codec.change.spell change)
 
+-- the bytes of the greatest body of a record
+abbrev pub most_body : ℕ
+most_body = 67108864
+
 -- a change has too many bytes for a record, or its record passes the limit; before its bytes a record has a gate and their length
 abbrev pub fills_journal : Limits → ℕ → Change → Bool
-fills_journal limits used change = nat_lt 67_108_864 (body_length change) || nat_lt limits.journal (used + 5 + body_length change)
+fills_journal limits used change = nat_lt most_body (body_length change) || nat_lt limits.journal (used + 5 + body_length change)
 
 -- A change is accepted, and that is the reply, unless there is no room for it. `file_of` tells the content of a reference.
 unfoldable pub accept : Limits → Stock → (FileRef → File) → Change → List ℕ → Answer

@@ -1,10 +1,10 @@
 -- The repository: lists of rows, without index.
-use Rattle.std.specs.Prelude.{◌≡◌, ℕ, ℤ, Bool, false, not, ◌&&◌, nat_eq, List, [], ◌∷◌, ◌++◌, filter, codes, Option, None, is_some}
+use Rattle.std.specs.Prelude.{◌≡◌, ℕ, ℤ, Bool, false, not, ◌&&◌, List, [], ◌∷◌, ◌++◌, filter, codes, Option, None, is_some}
 use Rattle.std.specs.List.{find, list_any, AllPairs}
 use Rattle.std.specs.Ordering.{is_lt}
 use Rattle.std.specs.declared.cmp.Ordering.TheVariants.{Less}
-use Rattle.std.specs.Cmp.Lexicographic.{pointwise}
 use Rattle.arti_rows.specs.Key.{Key, key_cmp, folders_above}
+pub use Rattle.arti_rows.specs.Key.{same_key}
 use Rattle.arti_rows.specs.declared.rows.Digests.{Digests}
 use Rattle.arti_rows.specs.declared.rows.Given.{Given}
 use Rattle.arti_rows.specs.declared.rows.Property.{Property}
@@ -37,10 +37,6 @@ abbrev pub opening : Repository
 opening = record { items = [] }
 
 -- ---- look-ups
-
--- two keys are one
-abbrev pub same_key : Key → Key → Bool
-same_key a b = pointwise nat_eq a.repo b.repo && pointwise nat_eq a.path b.path && pointwise nat_eq a.name b.name
 
 -- the item of a key
 abbrev pub find_item : List Item → Key → Option Item

@@ -9,7 +9,7 @@ ghost use Rattle.arti_model.specs.Store.{Item, InDefaultOrder, put_item};
 ghost use Rattle.arti_model.specs.Run.{AnswersAll, run_bytes};
 
 /// Why the bytes of a stream are no request.
-#[derive(Clone, Copy, Debug, PartialEq, Eq, Hash)]
+#[derive(Clone, Copy, Debug, PartialEq, Eq)]
 pub enum Why {
     /// The bytes begin with no request head, or too many line ends stand before it.
     BadHead,

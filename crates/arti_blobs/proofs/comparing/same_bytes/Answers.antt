@@ -1,13 +1,14 @@
 use Rattle.std.proofs.Common.{rules, ◌≡◌, ◌+◌, ◌≤◌, length, take, drop, sym, ◌∙◌, arith}
 use Rattle.std.proofs.lemmas.Bool.{false≢true}
 use Rattle.std.proofs.lemmas.List.{length-take-le}
+use Rattle.arti_rows.specs.Sizes.{contents_file}
 use Rattle.arti_ground.specs.Moments.{reads_then}
 use Rattle.arti_blobs.proofs.Blocks.{same_blocks, same_more, block_of}
 use Rattle.arti_blobs.proofs.comparing.same_bytes.Goals as goal
 
 pub returns-then-not-branch-clause-same : goal.returns-then-not-branch-clause-same
 returns-then-not-branch-clause-same g c = λ tells.
-    let bytes = (g.G.Ground.state c.args.outside.now).files 3 in
+    let bytes = (g.G.Ground.state c.args.outside.now).files contents_file in
     let n = c.min-n.result in
     let done = c.blocks-2.done in
     let size : length (take n c.blocks-2.one) ≡ n = length-take-le n c.blocks-2.one (omega arith) in
@@ -18,7 +19,7 @@ returns-then-not-branch-clause-same g c = λ tells.
 
 pub blocks-2-preserved : goal.blocks-2-preserved
 blocks-2-preserved g c =
-    let bytes = (g.G.Ground.state c.args.outside.now).files 3 in
+    let bytes = (g.G.Ground.state c.args.outside.now).files contents_file in
     let n = c.min-n.result in
     let done = c.blocks-2.done in
     let size : length (take n c.blocks-2.one) ≡ n = length-take-le n c.blocks-2.one (omega arith) in

@@ -1,10 +1,11 @@
 use Rattle.std.proofs.Common.{◌≡◌, ◌≤◌, ◌-◌, take, drop}
+use Rattle.arti_rows.specs.Sizes.{contents_file}
 use Rattle.arti_ground.specs.State.{OnlyReads}
 use Rattle.arti_blobs.proofs.comparing.same_bytes.Given as goal
 
 abbrev pub invariant-blocks-2 : goal.invariant-blocks-2
 invariant-blocks-2 g l =
-    let bytes = (g.G.Ground.state l.fn.outside).files 3 in
+    let bytes = (g.G.Ground.state l.fn.outside).files contents_file in
     record {
       within : l.done ≤ l.len;
       reads : g.G.Ground.tells → OnlyReads (g.G.Ground.state l.fn.outside) (g.G.Ground.state l.outside);

@@ -2,11 +2,13 @@ use Rattle.std.proofs.Common.{◌≡◌, ◌+◌, ◌≤◌, ℕ, false, List, l
 use Rattle.std.specs.Prelude.{All, IfOk, IfSome, IsSomeAnd, Contains, ◌↔◌}
 use Rattle.std.proofs.lemmas.Bool.{false≢true}
 use Rattle.arti_rows.specs.declared.rows.FileRef.{FileRef}
+use Rattle.arti_rows.specs.Sizes.{contents_file}
 use Rattle.arti_blobs.specs.declared.fault.StageFault.{StageFault}
 use Rattle.arti_blobs.specs.declared.staging.Staging.{Staging}
 use Rattle.arti_blobs.specs.declared.staging.Staged.{Staged}
 use Rattle.arti_ground.specs.State.{Bytes}
-use Rattle.arti_blobs.specs.Digests.{digests_of, Has}
+use Rattle.arti_rows.specs.DigestsOf.{digests_of}
+use Rattle.arti_blobs.specs.Digests.{Has}
 use Rattle.arti_blobs.specs.Contents.{Contents, content, end_of, IsSame, HasPair, kept_with, staged_length, HoldsContents}
 use Rattle.arti_blobs.proofs.Kept.{end_push}
 use Rattle.arti_blobs.proofs.Pairs.{same_is_pair, none_is_pair}
@@ -26,9 +28,9 @@ returns-clause-kept g c =
 
 pub returns-clause-next : goal.returns-clause-next
 returns-clause-next g c = λ tells.
-    let before = (g.G.Ground.state c.args.outside.now).files 3 in
-    let after = (g.G.Ground.state c.find_same.new.outside).files 3 in
-    let same : length after ≡ length before = ap (λ (b : Bytes). length (b 3)) (c.find_same.ensures.reads tells).disk.files in
+    let before = (g.G.Ground.state c.args.outside.now).files contents_file in
+    let after = (g.G.Ground.state c.find_same.new.outside).files contents_file in
+    let same : length after ≡ length before = ap (λ (b : Bytes). length (b contents_file)) (c.find_same.ensures.reads tells).disk.files in
     let begun : c.args.self.now.staging ≡ Some c.unwrap-staging.result = sym (ap (λ (b : Contents). b.staging) c.self.view_is) ∙ sym c.take.ensures.value ∙ c.unwrap-staging.ensures in
     let within : end_of c.args.self.now.kept + c.unwrap-staging.result.len ≤ length before =
     subst (λ (o : Option Staging). end_of c.args.self.now.kept + staged_length o ≤ length before) begun (c.requires.holds tells) in
@@ -40,7 +42,7 @@ returns-clause-next g c = λ tells.
 
 pub returns-clause-fresh : goal.returns-clause-fresh
 returns-clause-fresh g c = λ tells wanted held.
-    let bytes = (g.G.Ground.state c.args.outside.now).files 3 in
+    let bytes = (g.G.Ground.state c.args.outside.now).files contents_file in
     let file = c.finish-file.result in
     let kept : c.self.inside.index ≡ c.args.self.now.kept = ap (λ (b : Contents). b.kept) c.self.view_is in
     let begun : c.args.self.now.staging ≡ Some c.unwrap-staging.result = sym (ap (λ (b : Contents). b.staging) c.self.view_is) ∙ sym c.take.ensures.value ∙ c.unwrap-staging.ensures in
