@@ -5,31 +5,13 @@ use Rattle.std.specs.List.{filter, list_any, insert, remove}
 use Rattle.std.specs.Ordering.{nat_cmp}
 use Rattle.std.specs.List.Sorted.{IsBinarySearchResult, IsStrictlySortedBy}
 use Rattle.std.proofs.lemmas.List.{append-nil, take-append-drop, get_or-take, get_or-drop, length-take, length-drop}
-use Rattle.std.proofs.lemmas.List.Elements.{All-head, All-tail, All-cons, All-nil, All-append, All-filter, All-from_get_or, filter-append, filter_passes}
+use Rattle.std.proofs.lemmas.List.Elements.{All-head, All-tail, All-cons, All-nil, All-append, All-filter, All-from_get_or, All-weaker, filter-append, filter_passes}
 use Rattle.std.proofs.lemmas.List.Sorted.{searched}
 use Rattle.std.proofs.lemmas.Map.Keys.{sorted_from_strictly_increasing}
-use Rattle.std.proofs.lemmas.Bool.{cases_eq, ne_eqb, false≢true}
-use Rattle.std.proofs.lemmas.Bool.Decides.{nat_tests}
+use Rattle.std.proofs.lemmas.Bool.{cases_eq, ne_eqb, false≢true, lt-ltb, le-ltb, ltb-true, or_right}
 use Rattle.std.proofs.lemmas.List.Folds.{list_any_none, list_any-append}
 use Rattle.std.proofs.Math.Seq.{split_at}
 use Rattle.arti_ids.specs.Ids.{Ascends, lower, higher, with_id, without_id}
-
-or_true : (a : Bool) → (a || true) ≡ true
-or_true true = refl
-or_true false = refl
-
-pub lt_yes : (a b : ℕ) → a < b → nat_lt a b ≡ true
-lt_yes a b h = grind (arith, nat_tests)
-
-pub lt_no : (a b : ℕ) → b ≤ a → nat_lt a b ≡ false
-lt_no a b h = grind (arith, nat_tests)
-
-yes_lt : (a b : ℕ) → nat_lt a b ≡ true → a < b
-yes_lt a b h = grind (arith, nat_tests)
-
-pub all_map : {X : Type 0} (P Q : X → Type 0) → ((x : X) → P x → Q x) → (xs : List X) → All P xs → All Q xs
-all_map P Q f [] all = All-nil Q
-all_map P Q f (x ∷ xs) all = All-cons Q x xs (f x (All-head P x xs all)) (all_map P Q f xs (All-tail P x xs all))
 
 keep_all : {X : Type 0} (p : X → Bool) (xs : List X) → All (λ x. p x ≡ true) xs → filter p xs ≡ xs
 keep_all p [] all = refl
@@ -50,21 +32,21 @@ module _ {X : Type 0} (id_of : X → ℕ) (id : ℕ) where
 
   pub all_under : (xs : List X) → All Under xs → (lower id_of id xs ≡ xs) × (higher id_of id xs ≡ [])
   all_under xs all = (
-    keep_all (λ x. nat_lt (id_of x) id) xs (all_map Under (λ x. nat_lt (id_of x) id ≡ true) (λ x h. lt_yes (id_of x) id h) xs all),
-    keep_none (λ x. nat_lt id (id_of x)) xs (all_map Under (λ x. nat_lt id (id_of x) ≡ false) (λ x h. lt_no id (id_of x) (omega arith)) xs all),
+    keep_all (λ x. nat_lt (id_of x) id) xs (All-weaker Under (λ x. nat_lt (id_of x) id ≡ true) (λ x h. lt-ltb (id_of x) id h) xs all),
+    keep_none (λ x. nat_lt id (id_of x)) xs (All-weaker Under (λ x. nat_lt id (id_of x) ≡ false) (λ x h. le-ltb id (id_of x) (omega arith)) xs all),
   )
 
   pub all_over : (xs : List X) → All Over xs → (lower id_of id xs ≡ []) × (higher id_of id xs ≡ xs)
   all_over xs all = (
-    keep_none (λ x. nat_lt (id_of x) id) xs (all_map Over (λ x. nat_lt (id_of x) id ≡ false) (λ x h. lt_no (id_of x) id (omega arith)) xs all),
-    keep_all (λ x. nat_lt id (id_of x)) xs (all_map Over (λ x. nat_lt id (id_of x) ≡ true) (λ x h. lt_yes id (id_of x) h) xs all),
+    keep_none (λ x. nat_lt (id_of x) id) xs (All-weaker Over (λ x. nat_lt (id_of x) id ≡ false) (λ x h. le-ltb (id_of x) id (omega arith)) xs all),
+    keep_all (λ x. nat_lt id (id_of x)) xs (All-weaker Over (λ x. nat_lt id (id_of x) ≡ true) (λ x h. lt-ltb id (id_of x) h) xs all),
   )
 
   pub lower_under : (xs : List X) → All Under (lower id_of id xs)
-  lower_under xs = all_map (λ x. nat_lt (id_of x) id ≡ true) Under (λ x h. yes_lt (id_of x) id h) (lower id_of id xs) (filter_passes (λ x. nat_lt (id_of x) id) xs)
+  lower_under xs = All-weaker (λ x. nat_lt (id_of x) id ≡ true) Under (λ x h. ltb-true (id_of x) id h) (lower id_of id xs) (filter_passes (λ x. nat_lt (id_of x) id) xs)
 
   pub higher_over : (xs : List X) → All Over (higher id_of id xs)
-  higher_over xs = all_map (λ x. nat_lt id (id_of x) ≡ true) Over (λ x h. yes_lt id (id_of x) h) (higher id_of id xs) (filter_passes (λ x. nat_lt id (id_of x)) xs)
+  higher_over xs = All-weaker (λ x. nat_lt id (id_of x) ≡ true) Over (λ x h. ltb-true id (id_of x) h) (higher id_of id xs) (filter_passes (λ x. nat_lt id (id_of x)) xs)
 
   lower-append : (xs ys : List X) → lower id_of id (xs ++ ys) ≡ lower id_of id xs ++ lower id_of id ys
   lower-append xs ys = filter-append (λ x. nat_lt (id_of x) id) xs ys
@@ -84,20 +66,20 @@ module _ {X : Type 0} (id_of : X → ℕ) (id : ℕ) where
   -- one with that id between them
   pub mid_cons : (x : X) (xs : List X) → id_of x ≡ id → (lower id_of id (x ∷ xs) ≡ lower id_of id xs) × (higher id_of id (x ∷ xs) ≡ higher id_of id xs)
   mid_cons x xs is = (
-    ap (λ b. cond b (x ∷ lower id_of id xs) (lower id_of id xs)) (lt_no (id_of x) id (omega (arith, is))),
-    ap (λ b. cond b (x ∷ higher id_of id xs) (higher id_of id xs)) (lt_no id (id_of x) (omega (arith, is))),
+    ap (λ b. cond b (x ∷ lower id_of id xs) (lower id_of id xs)) (le-ltb (id_of x) id (omega (arith, is))),
+    ap (λ b. cond b (x ∷ higher id_of id xs) (higher id_of id xs)) (le-ltb id (id_of x) (omega (arith, is))),
   )
 
   pub low_cons : (x : X) (xs : List X) → id_of x < id → (lower id_of id (x ∷ xs) ≡ x ∷ lower id_of id xs) × (higher id_of id (x ∷ xs) ≡ higher id_of id xs)
   low_cons x xs is = (
-    ap (λ b. cond b (x ∷ lower id_of id xs) (lower id_of id xs)) (lt_yes (id_of x) id is),
-    ap (λ b. cond b (x ∷ higher id_of id xs) (higher id_of id xs)) (lt_no id (id_of x) (omega arith)),
+    ap (λ b. cond b (x ∷ lower id_of id xs) (lower id_of id xs)) (lt-ltb (id_of x) id is),
+    ap (λ b. cond b (x ∷ higher id_of id xs) (higher id_of id xs)) (le-ltb id (id_of x) (omega arith)),
   )
 
   pub high_cons : (x : X) (xs : List X) → id < id_of x → (lower id_of id (x ∷ xs) ≡ lower id_of id xs) × (higher id_of id (x ∷ xs) ≡ x ∷ higher id_of id xs)
   high_cons x xs is = (
-    ap (λ b. cond b (x ∷ lower id_of id xs) (lower id_of id xs)) (lt_no (id_of x) id (omega arith)),
-    ap (λ b. cond b (x ∷ higher id_of id xs) (higher id_of id xs)) (lt_yes id (id_of x) is),
+    ap (λ b. cond b (x ∷ lower id_of id xs) (lower id_of id xs)) (le-ltb (id_of x) id (omega arith)),
+    ap (λ b. cond b (x ∷ higher id_of id xs) (higher id_of id xs)) (lt-ltb id (id_of x) is),
   )
 
   pub parts_mid : (a : List X) (x : X) (b : List X) → id_of x ≡ id → All Under a → All Over b → (lower id_of id (a ++ x ∷ b) ≡ a) × (higher id_of id (a ++ x ∷ b) ≡ b)
@@ -122,13 +104,13 @@ module _ {X : Type 0} (id_of : X → ℕ) (id : ℕ) where
   ascends_join [] b up_a up_b under over = up_b
   ascends_join (x ∷ a) b up_a up_b under over =
       let low = All-head Under x a under in
-      (All-append (λ y. id_of x < id_of y) a b up_a.0 (all_map Over (λ y. id_of x < id_of y) (λ y h. omega (arith, low, h)) b over), ascends_join a b up_a.1 up_b (All-tail Under x a under) over)
+      (All-append (λ y. id_of x < id_of y) a b up_a.0 (All-weaker Over (λ y. id_of x < id_of y) (λ y h. omega (arith, low, h)) b over), ascends_join a b up_a.1 up_b (All-tail Under x a under) over)
 
   pub ascends_mid : (a : List X) (m : X) (b : List X) → id_of m ≡ id → Ascends id_of a → Ascends id_of b → All Under a → All Over b → Ascends id_of (a ++ m ∷ b)
-  ascends_mid [] m b is up_a up_b under over = (all_map Over (λ y. id_of m < id_of y) (λ y h. omega (arith, is, h)) b over, up_b)
+  ascends_mid [] m b is up_a up_b under over = (All-weaker Over (λ y. id_of m < id_of y) (λ y h. omega (arith, is, h)) b over, up_b)
   ascends_mid (x ∷ a) m b is up_a up_b under over =
       let low = All-head Under x a under in
-      (All-append (λ y. id_of x < id_of y) a (m ∷ b) up_a.0 (All-cons (λ y. id_of x < id_of y) m b (omega (arith, low, is)) (all_map Over (λ y. id_of x < id_of y) (λ y h. omega (arith, low, h)) b over)), ascends_mid a m b is up_a.1 up_b (All-tail Under x a under) over)
+      (All-append (λ y. id_of x < id_of y) a (m ∷ b) up_a.0 (All-cons (λ y. id_of x < id_of y) m b (omega (arith, low, is)) (All-weaker Over (λ y. id_of x < id_of y) (λ y h. omega (arith, low, h)) b over)), ascends_mid a m b is up_a.1 up_b (All-tail Under x a under) over)
 
 abbrev pub Rising : List ℕ → Type 0
 Rising xs = Ascends (λ x. x) xs
@@ -158,7 +140,7 @@ none_here id xs all = list_any_none (λ x. x == id) xs all
 module _ (xs : List ℕ) (id : ℕ) (up : Rising xs) where
   none_among : (a b : List ℕ) → All (λ x. x < id) a → All (λ x. id < x) b → list_any (λ x. x == id) (a ++ b) ≡ false
   none_among a b under over =
-      none_here id (a ++ b) (All-append (λ x. (x == id) ≡ false) a b (all_map (λ x. x < id) (λ x. (x == id) ≡ false) (λ x h. ne_eqb x id (λ e. omega (arith, e, h))) a under) (all_map (λ x. id < x) (λ x. (x == id) ≡ false) (λ x h. ne_eqb x id (λ e. omega (arith, e, h))) b over))
+      none_here id (a ++ b) (All-append (λ x. (x == id) ≡ false) a b (All-weaker (λ x. x < id) (λ x. (x == id) ≡ false) (λ x h. ne_eqb x id (λ e. omega (arith, e, h))) a under) (All-weaker (λ x. id < x) (λ x. (x == id) ≡ false) (λ x h. ne_eqb x id (λ e. omega (arith, e, h))) b over))
 
   take_under : (i : ℕ) → i ≤ length xs → ((k : ℕ) → k < i → get_or xs k 0 < id) → All (λ x. x < id) (take i xs)
   take_under i within h = All-from_get_or (λ x. x < id) (take i xs) 0 (λ k below.
@@ -217,7 +199,7 @@ removed xs new id i up found items =
 -- the id is among them
 pub has_with : (id : ℕ) (xs : List ℕ) → list_any (λ x. x == id) (with_id id xs) ≡ true
 has_with id xs =
-    list_any-append (λ x. x == id) (lower (λ x. x) id xs) (id ∷ higher (λ x. x) id xs) ∙ ap (λ b. list_any (λ x. x == id) (lower (λ x. x) id xs) || (b || list_any (λ x. x == id) (higher (λ x. x) id xs))) (eq-eqb id id refl) ∙ or_true (list_any (λ x. x == id) (lower (λ x. x) id xs))
+    list_any-append (λ x. x == id) (lower (λ x. x) id xs) (id ∷ higher (λ x. x) id xs) ∙ ap (λ b. list_any (λ x. x == id) (lower (λ x. x) id xs) || (b || list_any (λ x. x == id) (higher (λ x. x) id xs))) (eq-eqb id id refl) ∙ or_right (list_any (λ x. x == id) (lower (λ x. x) id xs)) true refl
 
 pub sorted_ids : (xs : List ℕ) → Rising xs → IsStrictlySortedBy nat_cmp xs
 sorted_ids xs up = sorted_from_strictly_increasing xs (λ k within. below_later xs k (k + 1) up (omega arith) within)

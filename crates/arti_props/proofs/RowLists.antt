@@ -9,13 +9,13 @@ use Rattle.std.specs.Ordering.{nat_cmp, match_ordering, is_eq}
 use Rattle.std.specs.declared.cmp.Ordering.TheVariants.{Less, Equal, Greater}
 use Rattle.std.specs.List.Sorted.{IsStrictlySortedBy}
 use Rattle.std.proofs.lemmas.List.{map-append}
-use Rattle.std.proofs.lemmas.List.Elements.{All-head, All-tail, All-cons, All-nil, All-filter, All-from_recursion, filter-append}
+use Rattle.std.proofs.lemmas.List.Elements.{All-head, All-tail, All-cons, All-nil, All-filter, All-from_recursion, All-weaker, filter-append}
 use Rattle.std.proofs.lemmas.Map.Keys.{sorted_head, sorted_tail}
 use Rattle.std.proofs.lemmas.Cmp.{ranked}
 use Rattle.arti_props.specs.declared.row.Row.{Row}
 use Rattle.arti_ids.specs.Ids.{Ascends, lower, higher, with_id, without_id}
 use Rattle.arti_props.specs.Rows.{set_row, drop_row, ids_where}
-use Rattle.arti_ids.specs.IdLaws.{all_map, all_over, mid_cons, low_cons}
+use Rattle.arti_ids.specs.IdLaws.{all_over, mid_cons, low_cons}
 
 abbrev pub Entry : Type 0
 Entry = ℕ × Row
@@ -44,10 +44,10 @@ rising_rows (e ∷ es) up =
     (keys_above e.0 es (All-from_recursion (λ y. nat_cmp e.0 y ≡ Less) (keys_of es) (sorted_head nat_cmp e.0 (keys_of es) up)), rising_rows es (sorted_tail nat_cmp e.0 (keys_of es) up))
 
 over_first : (id : ℕ) (e : Entry) (es : List Entry) → Ascends id_of (e ∷ es) → id < e.0 → All (λ x. id < id_of x) (e ∷ es)
-over_first id e es up lt = All-cons (λ x. id < id_of x) e es lt (all_map (λ x. e.0 < id_of x) (λ x. id < id_of x) (λ x h. omega (arith, lt, h)) es up.0)
+over_first id e es up lt = All-cons (λ x. id < id_of x) e es lt (All-weaker (λ x. e.0 < id_of x) (λ x. id < id_of x) (λ x h. omega (arith, lt, h)) es up.0)
 
 over_rest : (id : ℕ) (e : Entry) (es : List Entry) → Ascends id_of (e ∷ es) → id ≡ e.0 → All (λ x. id < id_of x) es
-over_rest id e es up is = all_map (λ x. e.0 < id_of x) (λ x. id < id_of x) (λ x h. omega (arith, is, h)) es up.0
+over_rest id e es up is = All-weaker (λ x. e.0 < id_of x) (λ x. id < id_of x) (λ x h. omega (arith, is, h)) es up.0
 
 module _ (id : ℕ) (row : Row) where
   insert_by : (e : Entry) (es rest : List Entry) → Ascends id_of (e ∷ es) → (o : Ordering) → nat_cmp id e.0 ≡ o → rest ≡ set_row id row es → match_ordering o ((id, row) ∷ e ∷ es) ((e.0, row) ∷ es) (e ∷ rest) ≡ set_row id row (e ∷ es)
