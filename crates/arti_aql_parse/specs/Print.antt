@@ -1,6 +1,6 @@
 -- The printed form of a query: no spaces, the shortest escapes, a literal alone for a single test of equality, and the suffixes
 -- in one order. The number is how many braces and brackets may still be opened: what is nested deeper than in any text is left out.
-use Rattle.std.specs.Prelude.{ℕ, zero, suc, List, [], ◌∷◌, ◌++◌, Bool, true, false, if◌then◌else◌, ◌==◌, ◌||◌, nat_lt, length, map, codes, decimal, Option, Some, None}
+use Rattle.std.specs.Prelude.{ℕ, zero, suc, List, [], ◌∷◌, ◌++◌, Bool, true, false, if◌then◌else◌, ◌==◌, nat_lt, length, map, codes, decimal, Option, Some, None}
 use Rattle.std.specs.Fmt.{signed_decimal}
 use Rattle.json.specs.Print.{quoted}
 use Rattle.arti_aql_parse.specs.Grammar.{most_levels}

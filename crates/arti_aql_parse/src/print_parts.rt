@@ -1,52 +1,14 @@
 //! Texts, numbers and tests in the printed form.
-ghost use Rattle.std.specs.Prelude.{◌≡◌, ◌++◌, ◌∷◌, [], length, map, decimal, false, if◌then◌else◌, ◌==◌, OnOk, string_bytes};
+ghost use Rattle.std.specs.Prelude.{◌≡◌, ◌++◌, ◌∷◌, [], length, map, decimal, if◌then◌else◌, ◌==◌, OnOk, string_bytes};
 ghost use Rattle.std.specs.Fmt.{signed_decimal};
-ghost use Rattle.std.specs.List.{list_any};
 ghost use Rattle.json.specs.Print.{quoted};
-ghost use Rattle.arti_json.specs.Escapes.{has_escape};
 ghost use Rattle.arti_aql_parse.specs.Print.{comma_before, group_name, op_name, is_equality, literal_text, test_text, tests_text, operand_text, row, texts_text};
 
 use crate::query::{Lit, Op, Test};
 use crate::words::Group;
+use arti_json::push_text;
 use arti_rows::Text;
-use serde_json::Value;
 use std::alloc::{AllocError, Global};
-
-// Whether some byte of a text has an escape.
-fn needs_escape(bytes: &[u8]) -> bool
-    ensures { result ≡ list_any has_escape bytes.now }
-{
-    bytes.iter().any(|b| *b < 32 || *b == b'"' || *b == b'\\')
-}
-
-// A text that needs no escape.
-fn push_plain(out: &mut String, text: &str) -> Result<(), AllocError>
-    requires { list_any has_escape text.now ≡ false }
-    ensures { OnOk result (string_bytes out.new ≡ string_bytes out.old ++ quoted text.now) }
-{
-    out.push_str("\"")?;
-    out.push_str(text)?;
-    out.push_str("\"")
-}
-
-fn push_escaped(alloc: Global, out: &mut String, text: &str) -> Result<(), AllocError>
-    ensures { OnOk result (string_bytes out.new ≡ string_bytes out.old ++ quoted text.now) }
-{
-    let value = Value::String(String::from_str(alloc, text)?);
-    let escaped = value.to_string(alloc)?;
-    out.push_str(&escaped)
-}
-
-/// Appends a text in quotes, with the shortest escapes.
-pub fn push_text(alloc: Global, out: &mut String, text: &str) -> Result<(), AllocError>
-    ensures { OnOk result (string_bytes out.new ≡ string_bytes out.old ++ quoted text.now) }
-{
-    if needs_escape(text.as_bytes()) {
-        push_escaped(alloc, out, text)
-    } else {
-        push_plain(out, text)
-    }
-}
 
 /// Appends a number in decimal digits.
 pub fn push_number(alloc: Global, out: &mut String, n: u64) -> Result<(), AllocError>

@@ -4,9 +4,10 @@ ghost use Rattle.arti_aql_parse.specs.Print.{row, object_text, member_text, memb
 ghost use Rattle.arti_aql_parse.specs.Tree as plain;
 ghost use Rattle.arti_aql_parse.specs.View.{object_view, member_view, members_view, objects_view};
 
-use crate::print_parts::{group_name, push_comma, push_operand, push_text};
+use crate::print_parts::{group_name, push_comma, push_operand};
 use crate::query::{Member, Object};
 use crate::words::Group;
+use arti_json::push_text;
 use std::alloc::{AllocError, Global};
 
 // Appends an object. So many braces and brackets may still be opened.

@@ -4,6 +4,7 @@ ghost use Rattle.std.specs.List.{list_any};
 ghost use Rattle.json.specs.Print.{quoted};
 ghost use Rattle.arti_json.specs.Escapes.{has_escape};
 
+use crate::escape::needs_escape;
 use serde_json::Value;
 use std::alloc::{AllocError, Global};
 
@@ -25,13 +26,6 @@ pub fn write_number(alloc: Global, out: &mut Vec<u8>, n: u64) -> Result<(), Allo
 {
     let digits = n.to_string(alloc)?;
     out.extend_from_slice(digits.as_bytes())
-}
-
-// Whether some byte of a text has an escape.
-fn needs_escape(bytes: &[u8]) -> bool
-    ensures { result ≡ list_any has_escape bytes.now }
-{
-    bytes.iter().any(|b| *b < 32 || *b == b'"' || *b == b'\\')
 }
 
 // A text that needs no escape, by one copy.

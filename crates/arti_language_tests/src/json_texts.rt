@@ -1,5 +1,5 @@
 //! JSON texts and numbers.
-use arti_json::{write_number, write_text};
+use arti_json::{push_text, write_number, write_text};
 use std::test::Fail;
 
 // Texts, and as each is written.
@@ -18,6 +18,9 @@ fn texts_and_numbers(rt: HostRuntime) -> Result<(), Fail> {
         let mut out = vec![in alloc; b'x']?;
         write_text(alloc, &mut out, *text)?;
         assert_eq!(rt; &out[1..], want.as_bytes(), "at {text:?}");
+        let mut pushed = String::from_str(alloc, "x")?;
+        push_text(alloc, &mut pushed, *text)?;
+        assert_eq!(rt; &pushed.as_bytes()[1..], want.as_bytes(), "at {text:?}");
     }
     let mut out = Vec::new(alloc);
     write_number(alloc, &mut out, 18446744073709551615)?;

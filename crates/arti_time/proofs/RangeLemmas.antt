@@ -1,6 +1,5 @@
 -- Tests of dates and moments, and the range of days.
-use Rattle.std.proofs.Common.{◌≡◌, ◌↔◌, ℕ, ◌<◌, ◌≤◌, Bool, true, false, cond, ◌&&◌, Option, Some, None, IsSome, IfSome, refl, ap, arith, ℤ, pos, negsuc, ◌≤ℤ◌, to_z, w8, w16}
-use Rattle.std.specs.Prelude.{int_le}
+use Rattle.std.proofs.Common.{◌≡◌, ◌↔◌, ℕ, ◌<◌, ◌≤◌, Bool, true, false, cond, Option, Some, None, IsSome, IfSome, refl, ap, arith, ℤ, pos, negsuc, ◌≤ℤ◌, to_z, w8, w16}
 use Rattle.std.proofs.lemmas.Bool.{false≢true}
 use Rattle.std.specs.Bool.{Decides}
 use Rattle.std.specs.Int.{is_in_range, IsInRange}
