@@ -22,8 +22,8 @@ use Rattle.arti_rows.specs.declared.rows.Class.TheVariants.{Local, Remote, Virtu
 use Rattle.arti_codec.specs.Format.{Format, ◌⨟◌, of_parts, where_holds, number, bit, flag, run, IsThere, optional}
 use Rattle.arti_codec.specs.Reading.{◌▷◌, made, run_at, flag_at, number_at, optional_at}
 use Rattle.arti_codec.specs.Rules.{is_build_name, is_property, ascends, are_prop_keys, is_definition}
-use Rattle.arti_codec.specs.ChangeBytes.{text, moment, item_key, property, properties, digests, file_ref, given, which, some_digests, flagged, stat, stamps, stamps_of, held, held_of, item_row, promotion, artifact, dependency, module_row, build_name, build_parts, build_info, info_of, build_row, class_number, class_byte, text_or_none, definition, prop_keys, file_fields, set_fields, drop_fields, promote_fields}
-use Rattle.arti_codec.specs.ReadingRows.{text_at, moment_at, is_key, item_key_at, property_at, properties_at, digests_at, file_ref_at, given_of, given_at, some_digests_at, flagged_at, stat_at, stamps_at, held_at, item_row_of, item_row_at, promotion_at, artifact_at, dependency_at, module_row_at, build_name_at, build_parts_at, build_info_at, build_row_at, class_of, class_at, none_if_empty, text_or_none_at, definition_parts_at, definition_at, prop_keys_at, file_fields_at, set_fields_at, drop_fields_at, promote_fields_at}
+use Rattle.arti_codec.specs.ChangeBytes.{text, moment, item_key, property, properties, digests, file_ref, given, which, some_digests, flagged, stat, stamps, stamps_of, held, held_of, item_row, promotion, artifact, dependency, module_row, build_name, build_parts, build_info, info_of, added, added_of, build_row, class_number, class_byte, text_or_none, definition, prop_keys, file_fields, set_fields, drop_fields, promote_fields}
+use Rattle.arti_codec.specs.ReadingRows.{text_at, moment_at, is_key, item_key_at, property_at, properties_at, digests_at, file_ref_at, given_of, given_at, some_digests_at, flagged_at, stat_at, stamps_at, held_at, item_row_of, item_row_at, promotion_at, artifact_at, dependency_at, module_row_at, build_name_at, body_at, build_parts_at, build_info_at, added_at, build_row_of, build_row_at, class_of, class_at, none_if_empty, text_or_none_at, patterns_at, definition_parts_at, definition_at, prop_keys_at, file_fields_at, set_fields_at, drop_fields_at, promote_fields_at}
 use Rattle.arti_codec.proofs.FieldLaws.{Took, IsRead, pair_law, parts_law, where_law, behind_law, run_law, wide_16, wide_32, wide_64, number_law, code_law, optional_law, listed_law, limited_law, most_law}
 
 pub text_law : IsRead text text_at
@@ -220,7 +220,7 @@ unfolding build_name build_name_at
 build_name_law = where_law (λ name. is_build_name name ≡ true) is_build_name (λ n e. e) (λ n e. e) text_law
 
 pub build_parts_law : IsRead build_parts build_parts_at
-unfolding build_parts build_parts_at
+unfolding build_parts build_parts_at body_at
 build_parts_law = parts_law (λ b. (b.name, (b.number, (b.started, (b.url, (b.props, (b.modules, b.document)))))))
     (λ t. record { name = t.0; number = t.1.0; started = t.1.1.0; url = t.1.1.1.0; props = t.1.1.1.1.0; modules = t.1.1.1.1.1.0; document = t.1.1.1.1.1.1 }) (λ a. refl) (λ b. refl)
     (pair_law build_name_law (pair_law build_name_law (pair_law moment_law (pair_law text_law (pair_law (properties_law 8192) (pair_law (listed_law w32 wide_32 module_row_law) (behind_law length run run_at (λ n t fits. fits.0) (number_law w32 wide_32) run_law)))))))
@@ -241,12 +241,13 @@ build_info_law = record {
       rw (one, short) refl;
 }
 
+pub added_law : IsRead added added_at
+unfolding added added_at
+added_law = pair_law moment_law (pair_law text_law (pair_law moment_law (pair_law text_law (limited_law w32 1024 wide_32 promotion_law))))
+
 pub build_row_law : IsRead build_row build_row_at
 unfolding build_row build_row_at
-build_row_law = parts_law (λ b. (info_of b, (b.created, (b.created_by, (b.modified, (b.modified_by, b.promotions))))))
-    (λ t. record { name = t.0.name; number = t.0.number; started = t.0.started; url = t.0.url; created = t.1.0; created_by = t.1.1.0; modified = t.1.1.1.0; modified_by = t.1.1.1.1.0; props = t.0.props; modules = t.0.modules; promotions = t.1.1.1.1.1; document = t.0.document })
-    (λ a. refl) (λ b. refl)
-    (pair_law build_info_law (pair_law moment_law (pair_law text_law (pair_law moment_law (pair_law text_law (limited_law w32 1024 wide_32 promotion_law))))))
+build_row_law = parts_law (λ b. (info_of b, added_of b)) build_row_of (λ a. refl) (λ b. refl) (pair_law build_info_law added_law)
 
 class_small : (c : Class) → class_number c < 3
 class_small Local = omega arith
@@ -294,7 +295,7 @@ text_or_none_law = record {
 }
 
 pub definition_law : IsRead definition definition_at
-unfolding definition definition_at definition_parts_at
+unfolding definition definition_at definition_parts_at patterns_at
 definition_law = where_law (λ d. is_definition d ≡ true) is_definition (λ d e. e) (λ d e. e)
     (parts_law (λ d. (d.key, (d.class, (d.url, (d.members, (d.default_to, (d.includes, d.excludes)))))))
     (λ t. record { key = t.0; class = t.1.0; url = t.1.1.0; members = t.1.1.1.0; default_to = t.1.1.1.1.0; includes = t.1.1.1.1.1.0; excludes = t.1.1.1.1.1.1 }) (λ a. refl) (λ b. refl)

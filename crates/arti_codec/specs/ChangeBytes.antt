@@ -120,9 +120,14 @@ build_info = where_holds (λ b. length (build_parts.spell b) ≤ 33554432) build
 abbrev pub info_of : BuildRow → BuildInfo
 info_of b = record { name = b.name; number = b.number; started = b.started; url = b.url; props = b.props; modules = b.modules; document = b.document }
 
+abbrev pub added_of : BuildRow → ℤ × (List ℕ × (ℤ × (List ℕ × List PromotionRow)))
+added_of b = (b.created, (b.created_by, (b.modified, (b.modified_by, b.promotions))))
+
+unfoldable pub added : Format (ℤ × (List ℕ × (ℤ × (List ℕ × List PromotionRow))))
+added = moment ⨟ text ⨟ moment ⨟ text ⨟ limited w32 1024 promotion
+
 unfoldable pub build_row : Format BuildRow
-build_row = of_parts (λ b. (info_of b, (b.created, (b.created_by, (b.modified, (b.modified_by, b.promotions))))))
-    (build_info ⨟ moment ⨟ text ⨟ moment ⨟ text ⨟ limited w32 1024 promotion)
+build_row = of_parts (λ b. (info_of b, added_of b)) (build_info ⨟ added)
 
 abbrev pub class_number : Class → ℕ
 class_number Local = 0

@@ -100,18 +100,27 @@ module_row_at = made (λ t. record { id = t.0; artifacts = t.1.0; dependencies =
 unfoldable pub build_name_at : List ℕ → Option (List ℕ × List ℕ)
 build_name_at = tested is_build_name text_at
 
+-- what stands behind a build's texts
+unfoldable pub body_at : List ℕ → Option ((List Property × (List ModuleRow × List ℕ)) × List ℕ)
+body_at = properties_at 8192 ▷ listed_at w32 module_row_at ▷ told_by (number_at w32) run_at
+
 unfoldable pub build_parts_at : List ℕ → Option (BuildInfo × List ℕ)
 build_parts_at =
     made (λ t. record { name = t.0; number = t.1.0; started = t.1.1.0; url = t.1.1.1.0; props = t.1.1.1.1.0; modules = t.1.1.1.1.1.0; document = t.1.1.1.1.1.1 })
-    (build_name_at ▷ build_name_at ▷ moment_at ▷ text_at ▷ properties_at 8192 ▷ listed_at w32 module_row_at ▷ told_by (number_at w32) run_at)
+    (build_name_at ▷ build_name_at ▷ moment_at ▷ text_at ▷ body_at)
 
 unfoldable pub build_info_at : List ℕ → Option (BuildInfo × List ℕ)
 build_info_at bytes = build_parts_at bytes >>= λ x. if nat_le (length bytes - length x.1) 33554432 then Some x else None
 
+unfoldable pub added_at : List ℕ → Option ((ℤ × (List ℕ × (ℤ × (List ℕ × List PromotionRow)))) × List ℕ)
+added_at = moment_at ▷ text_at ▷ moment_at ▷ text_at ▷ limited_at w32 1024 promotion_at
+
+-- the row of a build that was put, with what the repository added
+abbrev pub build_row_of : BuildInfo × (ℤ × (List ℕ × (ℤ × (List ℕ × List PromotionRow)))) → BuildRow
+build_row_of t = record { name = t.0.name; number = t.0.number; started = t.0.started; url = t.0.url; created = t.1.0; created_by = t.1.1.0; modified = t.1.1.1.0; modified_by = t.1.1.1.1.0; props = t.0.props; modules = t.0.modules; promotions = t.1.1.1.1.1; document = t.0.document }
+
 unfoldable pub build_row_at : List ℕ → Option (BuildRow × List ℕ)
-build_row_at =
-    made (λ t. record { name = t.0.name; number = t.0.number; started = t.0.started; url = t.0.url; created = t.1.0; created_by = t.1.1.0; modified = t.1.1.1.0; modified_by = t.1.1.1.1.0; props = t.0.props; modules = t.0.modules; promotions = t.1.1.1.1.1; document = t.0.document })
-    (build_info_at ▷ moment_at ▷ text_at ▷ moment_at ▷ text_at ▷ limited_at w32 1024 promotion_at)
+build_row_at = made build_row_of (build_info_at ▷ added_at)
 
 abbrev pub class_of : ℕ → Class
 class_of n = if n == 0 then Local else (if n == 1 then Remote else Virtual)
@@ -126,11 +135,15 @@ none_if_empty (b ∷ bytes) = Some (b ∷ bytes)
 unfoldable pub text_or_none_at : List ℕ → Option (Option (List ℕ) × List ℕ)
 text_or_none_at = made none_if_empty text_at
 
+-- what stands behind a definition's members
+unfoldable pub patterns_at : List ℕ → Option ((Option (List ℕ) × (List ℕ × List ℕ)) × List ℕ)
+patterns_at = text_or_none_at ▷ text_at ▷ text_at
+
 -- a definition, whatever its rules
 unfoldable pub definition_parts_at : List ℕ → Option (RepoDef × List ℕ)
 definition_parts_at =
     made (λ t. record { key = t.0; class = t.1.0; url = t.1.1.0; members = t.1.1.1.0; default_to = t.1.1.1.1.0; includes = t.1.1.1.1.1.0; excludes = t.1.1.1.1.1.1 })
-    (text_at ▷ class_at ▷ text_at ▷ limited_at w16 256 text_at ▷ text_or_none_at ▷ text_at ▷ text_at)
+    (text_at ▷ class_at ▷ text_at ▷ limited_at w16 256 text_at ▷ patterns_at)
 
 unfoldable pub definition_at : List ℕ → Option (RepoDef × List ℕ)
 definition_at = tested is_definition definition_parts_at

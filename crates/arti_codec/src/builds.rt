@@ -2,10 +2,10 @@
 ghost use Rattle.std.specs.Prelude.{◌≡◌, ◌++◌, OnOk, length};
 ghost use Rattle.std.specs.Int.{w32};
 ghost use Rattle.arti_codec.specs.Format.{behind, number, run};
-ghost use Rattle.arti_codec.specs.ChangeBytes.{promotion, artifact, dependency, module_row, build_parts, build_info, build_row};
-ghost use Rattle.arti_codec.specs.Reading.{Gives, told_by, number_at, run_at};
-ghost use Rattle.arti_codec.specs.Seen.{seen};
-ghost use Rattle.arti_codec.specs.ReadingRows.{promotion_at, artifact_at, dependency_at, module_row_at, build_parts_at, build_info_at, build_row_at};
+ghost use Rattle.arti_codec.specs.ChangeBytes.{promotion, artifact, dependency, module_row, build_parts, build_info, added, added_of, build_row};
+ghost use Rattle.arti_codec.specs.Reading.{Gives, GivesSeen, told_by, number_at, run_at};
+ghost use Rattle.arti_codec.specs.Seen.{seen, body_seen, added_seen};
+ghost use Rattle.arti_codec.specs.ReadingRows.{promotion_at, artifact_at, dependency_at, module_row_at, body_at, build_parts_at, build_info_at, added_at, build_row_of, build_row_at};
 
 use crate::fault::DecodeFault;
 use crate::field::{
@@ -182,6 +182,29 @@ fn put_parts(out: &mut Vec<u8>, parts: &Parts<'_>) -> Result<(), AllocError>
     put_document(out, parts.document)
 }
 
+// What stands behind a build's texts.
+#[derive(Drop)]
+struct Body {
+    props: Seq<Property>,
+    modules: Seq<ModuleRow>,
+    document: Seq<u8>,
+}
+
+// Reads what stands behind a build's texts.
+#[tactic(auto, unfolding(crate::specs::ReadingRows::body_at))]
+fn take_body(alloc: Global, reader: &mut Reader<'_>) -> Result<Body, DecodeFault>
+    ensures { GivesSeen body_seen result (body_at reader.old) reader.new }
+{
+    let props = take_properties(alloc, reader, 8_192)?;
+    let modules = take_list32::<ModuleRow>(alloc, reader)?;
+    let document = take_document(alloc, reader)?;
+    Ok(Body {
+        props,
+        modules,
+        document,
+    })
+}
+
 // Reads a build as it was put, of any length.
 #[tactic(auto, unfolding(crate::specs::ReadingRows::build_parts_at))]
 fn take_parts(alloc: Global, reader: &mut Reader<'_>) -> Result<BuildInfo, DecodeFault>
@@ -191,17 +214,15 @@ fn take_parts(alloc: Global, reader: &mut Reader<'_>) -> Result<BuildInfo, Decod
     let number = take_build_name(alloc, reader)?;
     let started = Moment::take(alloc, reader)?;
     let url = Text::take(alloc, reader)?;
-    let props = take_properties(alloc, reader, 8_192)?;
-    let modules = take_list32::<ModuleRow>(alloc, reader)?;
-    let document = take_document(alloc, reader)?;
+    let body = take_body(alloc, reader)?;
     Ok(BuildInfo {
         name,
         number,
         started,
         url,
-        props,
-        modules,
-        document,
+        props: body.props,
+        modules: body.modules,
+        document: body.document,
     })
 }
 
@@ -237,6 +258,68 @@ impl Field for BuildInfo {
     }
 }
 
+// What the repository added to a build.
+#[derive(Drop)]
+struct Added {
+    created: Moment,
+    created_by: Text,
+    modified: Moment,
+    modified_by: Text,
+    promotions: Seq<PromotionRow>,
+}
+
+// Adds what the repository added to a build.
+#[tactic(auto, unfolding(crate::specs::ChangeBytes::added))]
+fn put_added(out: &mut Vec<u8>, row: &BuildRow) -> Result<(), AllocError>
+    requires { added.keeps (added_of row.now) }
+    ensures { OnOk result (out.new.items ≡ out.old.items ++ added.spell (added_of row.now)) }
+{
+    row.created.put(out)?;
+    row.created_by.put(out)?;
+    row.modified.put(out)?;
+    row.modified_by.put(out)?;
+    put_list32(out, row.promotions.as_slice())
+}
+
+// Reads what the repository added to a build.
+#[tactic(auto, unfolding(crate::specs::ReadingRows::added_at))]
+fn take_added(alloc: Global, reader: &mut Reader<'_>) -> Result<Added, DecodeFault>
+    ensures { GivesSeen added_seen result (added_at reader.old) reader.new }
+{
+    let created = Moment::take(alloc, reader)?;
+    let created_by = Text::take(alloc, reader)?;
+    let modified = Moment::take(alloc, reader)?;
+    let modified_by = Text::take(alloc, reader)?;
+    let promotions = take_some32::<PromotionRow>(alloc, reader, 1_024)?;
+    Ok(Added {
+        created,
+        created_by,
+        modified,
+        modified_by,
+        promotions,
+    })
+}
+
+// The row of a build that was put, with what the repository added.
+fn row_of_parts(info: BuildInfo, added: Added) -> BuildRow
+    ensures { result ≡ build_row_of (info, added_seen added) }
+{
+    BuildRow {
+        name: info.name,
+        number: info.number,
+        started: info.started,
+        url: info.url,
+        created: added.created,
+        created_by: added.created_by,
+        modified: added.modified,
+        modified_by: added.modified_by,
+        props: info.props,
+        modules: info.modules,
+        promotions: added.promotions,
+        document: info.document,
+    }
+}
+
 impl Field for BuildRow {
     ghost format = { build_row };
 
@@ -256,35 +339,13 @@ impl Field for BuildRow {
                 document: self.document.as_slice(),
             },
         )?;
-        self.created.put(out)?;
-        self.created_by.put(out)?;
-        self.modified.put(out)?;
-        self.modified_by.put(out)?;
-        put_list32(out, self.promotions.as_slice())?;
-        Ok(())
+        put_added(out, self)
     }
 
     #[tactic(auto, unfolding(crate::specs::ReadingRows::build_row_at))]
     fn take(alloc: Global, reader: &mut Reader<'_>) -> Result<BuildRow, DecodeFault> {
         let info = BuildInfo::take(alloc, reader)?;
-        let created = Moment::take(alloc, reader)?;
-        let created_by = Text::take(alloc, reader)?;
-        let modified = Moment::take(alloc, reader)?;
-        let modified_by = Text::take(alloc, reader)?;
-        let promotions = take_some32::<PromotionRow>(alloc, reader, 1_024)?;
-        Ok(BuildRow {
-            name: info.name,
-            number: info.number,
-            started: info.started,
-            url: info.url,
-            created,
-            created_by,
-            modified,
-            modified_by,
-            props: info.props,
-            modules: info.modules,
-            promotions,
-            document: info.document,
-        })
+        let added = take_added(alloc, reader)?;
+        Ok(row_of_parts(info, added))
     }
 }

@@ -4,8 +4,9 @@ ghost use Rattle.std.specs.List.{list_all, starts_with};
 ghost use Rattle.arti_rows.specs.Names.{is_repo_key};
 ghost use Rattle.arti_codec.specs.Rules.{fits_class, is_definition};
 ghost use Rattle.arti_codec.specs.ChangeBytes.{class_byte, text_or_none, definition};
-ghost use Rattle.arti_codec.specs.Reading.{Gives};
-ghost use Rattle.arti_codec.specs.ReadingRows.{class_at, text_or_none_at, definition_parts_at, definition_at};
+ghost use Rattle.arti_codec.specs.Reading.{Gives, GivesSeen};
+ghost use Rattle.arti_codec.specs.ReadingRows.{class_at, text_or_none_at, patterns_at, definition_parts_at, definition_at};
+ghost use Rattle.arti_codec.specs.Seen.{patterns_seen};
 
 use crate::fault::DecodeFault;
 use crate::field::{Field, put_list16, put_u16, take_some16};
@@ -99,6 +100,29 @@ fn is_definition(def: &RepoDef) -> bool
         )
 }
 
+// What stands behind a definition's members.
+#[derive(Drop)]
+struct Patterns {
+    default_to: Option<Text>,
+    includes: Text,
+    excludes: Text,
+}
+
+// Reads what stands behind a definition's members.
+#[tactic(auto, unfolding(crate::specs::ReadingRows::patterns_at))]
+fn take_patterns(alloc: Global, reader: &mut Reader<'_>) -> Result<Patterns, DecodeFault>
+    ensures { GivesSeen patterns_seen result (patterns_at reader.old) reader.new }
+{
+    let default_to = take_unless_empty(alloc, reader)?;
+    let includes = Text::take(alloc, reader)?;
+    let excludes = Text::take(alloc, reader)?;
+    Ok(Patterns {
+        default_to,
+        includes,
+        excludes,
+    })
+}
+
 // Reads a definition, whatever its rules.
 #[tactic(auto, unfolding(crate::specs::ReadingRows::definition_parts_at))]
 fn take_parts(alloc: Global, reader: &mut Reader<'_>) -> Result<RepoDef, DecodeFault>
@@ -108,17 +132,15 @@ fn take_parts(alloc: Global, reader: &mut Reader<'_>) -> Result<RepoDef, DecodeF
     let class = Class::take(alloc, reader)?;
     let url = Text::take(alloc, reader)?;
     let members = take_some16::<Text>(alloc, reader, 256)?;
-    let default_to = take_unless_empty(alloc, reader)?;
-    let includes = Text::take(alloc, reader)?;
-    let excludes = Text::take(alloc, reader)?;
+    let patterns = take_patterns(alloc, reader)?;
     Ok(RepoDef {
         key,
         class,
         url,
         members,
-        default_to,
-        includes,
-        excludes,
+        default_to: patterns.default_to,
+        includes: patterns.includes,
+        excludes: patterns.excludes,
     })
 }
 

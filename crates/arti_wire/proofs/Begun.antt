@@ -1,9 +1,9 @@
 -- What is ahead after the line ends, and after more reads, decides what the input begins with.
 use Rattle.std.proofs.Common.{◌≡◌, ℕ, zero, suc, ◌<◌, ◌≤◌, ◌⊎◌, Bool, true, false, List, [], ◌∷◌, ◌++◌, length, take, refl, sym, ap, ◌∙◌, subst, arith}
 use Rattle.std.specs.Prelude.{MatchBool}
-use Rattle.arti_model.specs.Requests.{Start, AtBad, StartsAt, Begins, skip, is_line_byte}
+use Rattle.arti_model.specs.Requests.{HeadOrNone, Start, AtBad, StartsAt, Begins, skip, is_line_byte}
 use Rattle.arti_model.specs.declared.Why.TheVariants.{BadHead}
-use Rattle.arti_wire.specs.Ahead.{HeadOrNone, with_more, Decides}
+use Rattle.arti_wire.specs.Ahead.{with_more, Decides}
 use Rattle.arti_wire.specs.Lines.{StartsSo}
 use Rattle.arti_wire.specs.declared.lines.FrontByte.TheVariants.{Byte}
 use Rattle.arti_wire.proofs.Fronts.{head_or_none_more}

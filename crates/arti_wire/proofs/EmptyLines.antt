@@ -7,16 +7,13 @@ use Rattle.std.specs.Prelude.{All, is_some}
 use Rattle.std.proofs.lemmas.List.{length-take-le, take-append-drop, get_or-take, drop-drop, drop_all}
 use Rattle.std.proofs.Math.Seq.{drop-cons, drop-append_seam}
 use Rattle.std.proofs.lemmas.List.Elements.{All-head, All-tail, All-from_get_or}
+use Rattle.std.proofs.lemmas.Iterator.Adapters.{option_map_id}
 use Rattle.arti_wire.specs.Lines.{IsBehindLine, SameSearch}
 use Rattle.arti_model.specs.Requests.{starts_line_end, lines_before_empty}
 
-map_same : (o : Option ℕ) → option_map (λ n. n) o ≡ o
-map_same None = refl
-map_same (Some n) = refl
-
 -- a byte that is no LF doesn't count
 pub lines_at_other : (b : ℕ) (bytes : List ℕ) → b ≢ 10 → lines_before_empty (b ∷ bytes) ≡ lines_before_empty bytes
-lines_at_other b bytes other = rw (ne_eqb b 10 other) (map_same (lines_before_empty bytes))
+lines_at_other b bytes other = rw (ne_eqb b 10 other) (option_map_id (lines_before_empty bytes))
 
 -- how many lines stand before the first empty line, where an LF stands before these bytes
 abbrev pub lines_after_lf : List ℕ → Option ℕ

@@ -3,6 +3,7 @@ use Rattle.std.proofs.Common.{◌≡◌, ◌≢◌, ℕ, ◌+◌, ◌-◌, ◌<�
 use Rattle.std.specs.Prelude.{MatchBool, option_map, is_some, ◌==◌, if◌then◌else◌, nat_lt}
 use Rattle.std.proofs.lemmas.Bool.{true≢false, false≢true, cases_Bool, cases_lt, and_parts, or_parts, or_cases, or_left, le-ltb, lt-ltb, eqb-true}
 use Rattle.std.proofs.lemmas.Bool.Decides.{nat_tests}
+use Rattle.std.proofs.lemmas.Option.{none-some}
 use Rattle.std.proofs.lemmas.List.{take-append-le, take-append-drop, take_all, length-drop}
 use Rattle.std.proofs.Math.Seq.{take-append_seam, take-append-add}
 use Rattle.httparse.specs.Grammar.{RequestHead, print_request, IsRequestHead, ReadsRequest, LineEnd, crlf, lf, print_blank}
@@ -10,8 +11,8 @@ use Rattle.httparse.specs.Spans.{name_and_value}
 use Rattle.httparse.proofs.GrammarLemmas.{ReadsRequest-append, print_request-append}
 use Rattle.arti_model.specs.declared.Why.{Why}
 use Rattle.arti_model.specs.declared.Why.TheVariants.{BadHead}
-use Rattle.arti_model.specs.Requests.{Request, Start, AtEnd, AtCut, AtBad, Head, StartsWithHead, HasNoHead, start_with, start_without, unless_bad, by_lines, body_fault, body_length, request_of, is_line_byte, StartsAt, starts_line_end, lines_before_empty}
-use Rattle.arti_wire.specs.Ahead.{HeadOrNone, with_more, Decides}
+use Rattle.arti_model.specs.Requests.{HeadOrNone, Request, Start, AtEnd, AtCut, AtBad, Head, StartsWithHead, HasNoHead, start_with, start_without, unless_bad, by_lines, body_fault, body_length, request_of, is_line_byte, StartsAt, starts_line_end, lines_before_empty}
+use Rattle.arti_wire.specs.Ahead.{with_more, Decides}
 use Rattle.arti_wire.proofs.EmptyLines.{lines_at_other, lines_after_lf}
 use Rattle.arti_wire.proofs.HeadEnds.{empty_line_end, starts_lf, HasNoBlank, head_ends}
 
@@ -20,9 +21,6 @@ behind_lf : (n : ℕ) (a b : ℕ) (bytes more : List ℕ) → starts_line_end (a
     → empty_line_end n true ((a ∷ b ∷ bytes) ++ more) ≡ empty_line_end n false ((a ∷ b ∷ bytes) ++ more)
 behind_lf n a b bytes more not =
     let parts = or_parts (a == 10) (a == 13 && b == 10) not in rw (parts.0, parts.1) refl
-
-none_is_some : (lines : ℕ) → None ≡ Some lines → ⊥
-none_is_some lines h = cc
 
 -- a line end directly behind an LF is the empty line
 now : (bytes : List ℕ) (n : ℕ) → starts_line_end bytes ≡ true → (p : ℕ) × (p ≤ n + length bytes) × ((more : List ℕ) → empty_line_end n true (bytes ++ more) ≡ Some p)
@@ -41,7 +39,7 @@ no_line_in_one : (a : ℕ) → lines_before_empty (a ∷ []) ≡ None
 no_line_in_one a = ⊎_elim (λ (h : (a == 10) ≡ true). rw h refl) (λ (h : (a == 10) ≡ false). rw h refl) (cases_Bool (a == 10))
 
 some_before : (o : Option ℕ) (lines : ℕ) → option_map (λ n. n + 1) o ≡ Some lines → (l : ℕ) × (o ≡ Some l)
-some_before None lines h = absurd (none_is_some lines h)
+some_before None lines h = absurd (none-some lines h)
 some_before (Some l) lines h = (l, refl)
 
 -- the first empty line ends in these bytes, whatever follows them
@@ -49,8 +47,8 @@ abbrev Lies : List ℕ → ℕ → Bool → Type 0
 Lies bytes n after = (p : ℕ) × (p ≤ n + length bytes) × ((more : List ℕ) → empty_line_end n after (bytes ++ more) ≡ Some p)
 
 behind : (bytes : List ℕ) (n : ℕ) → starts_line_end bytes ≡ false → (lines : ℕ) → lines_before_empty bytes ≡ Some lines → Lies bytes n false → Lies bytes n true
-behind [] n not lines h lies = absurd (none_is_some lines h)
-behind (a ∷ []) n not lines h lies = absurd (none_is_some lines (sym (no_line_in_one a) ∙ h))
+behind [] n not lines h lies = absurd (none-some lines h)
+behind (a ∷ []) n not lines h lies = absurd (none-some lines (sym (no_line_in_one a) ∙ h))
 behind (a ∷ b ∷ bytes) n not lines h lies = (lies.0, lies.1, λ more. behind_lf n a b bytes more not ∙ lies.2 more)
 
 later : (b : ℕ) (bytes : List ℕ) (n : ℕ) → Lies bytes (n + 1) (b == 10) → Lies (b ∷ bytes) n false
@@ -58,8 +56,8 @@ later b bytes n lies = (lies.0, omega (arith, lies.1), lies.2)
 
 -- where an empty line stands in the bytes, its end lies in them
 pub empty_line_lies : (bytes : List ℕ) (n lines : ℕ) → lines_before_empty bytes ≡ Some lines → Lies bytes n false
-empty_line_lies [] n lines h = absurd (none_is_some lines h)
-empty_line_lies (a ∷ []) n lines h = absurd (none_is_some lines (sym (no_line_in_one a) ∙ h))
+empty_line_lies [] n lines h = absurd (none-some lines h)
+empty_line_lies (a ∷ []) n lines h = absurd (none-some lines (sym (no_line_in_one a) ∙ h))
 empty_line_lies (a ∷ b ∷ bytes) n lines h =
     ⊎_elim (λ (is : (a == 10) ≡ true).
     let lf : a ≡ 10 = eqb-true a 10 is in
@@ -112,13 +110,13 @@ starts_more (a ∷ []) (b ∷ more) h = or_left (a == 10) (a == 13 && b == 10) h
 starts_more (a ∷ b ∷ bytes) more h = h
 
 not_starts_more : (bytes more : List ℕ) (lines : ℕ) → lines_before_empty bytes ≡ Some lines → starts_line_end bytes ≡ false → starts_line_end (bytes ++ more) ≡ false
-not_starts_more [] more lines some h = absurd (none_is_some lines some)
-not_starts_more (a ∷ []) more lines some h = absurd (none_is_some lines (sym (no_line_in_one a) ∙ some))
+not_starts_more [] more lines some h = absurd (none-some lines some)
+not_starts_more (a ∷ []) more lines some h = absurd (none-some lines (sym (no_line_in_one a) ∙ some))
 not_starts_more (a ∷ b ∷ bytes) more lines some h = h
 
 -- an empty line that stands there is the first one whatever follows
 pub lines_more_bytes : (bytes more : List ℕ) (lines : ℕ) → lines_before_empty bytes ≡ Some lines → lines_before_empty (bytes ++ more) ≡ Some lines
-lines_more_bytes [] more lines h = absurd (none_is_some lines h)
+lines_more_bytes [] more lines h = absurd (none-some lines h)
 lines_more_bytes (a ∷ bytes) more lines h =
     ⊎_elim (λ (is : (a == 10) ≡ true).
     let lf : a ≡ 10 = eqb-true a 10 is in
@@ -209,7 +207,7 @@ not_beyond b bytes more rest h plain (inr (inr found)) starts long =
     let whole : take 32768 all ≡ all = take_all 32768 all (omega (arith, starts.size)) in
     let passes = head_passes all more rest h long starts in
     let none = front_has_no_empty_line h all (drop (length all) (print_request h)) starts.reads.0 (no_blank b (bytes ++ more) rest h plain starts.reads) passes (omega (arith, length-drop (length all) (print_request h))) in
-    none_is_some lines.0 (sym none ∙ ap lines_before_empty (sym whole) ∙ lines.1)
+    none-some lines.0 (sym none ∙ ap lines_before_empty (sym whole) ∙ lines.1)
 
 same_with : (o : Option Why) (q : Request) (n : ℕ) (rest more : List ℕ) → unless_bad o (Head q n (rest ++ more)) ≡ with_more (unless_bad o (Head q n rest)) more
 same_with None q n rest more = refl

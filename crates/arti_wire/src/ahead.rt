@@ -10,7 +10,7 @@ use std::marker::Model;
 pub const ROOM: usize = 65536;
 
 /// Bytes ahead. Their room is made once.
-#[derive(Debug, Drop)]
+#[derive(Drop)]
 pub struct Ahead {
     room: Vec<u8>,
     start: usize,

@@ -1,8 +1,7 @@
 // What the bytes ahead begin with.
 ghost use Rattle.std.specs.Prelude.{◌≡◌, ℕ, List, length, drop, IfOk, ◌≤◌};
-ghost use Rattle.arti_wire.specs.Ahead.{HeadOrNone};
+ghost use Rattle.arti_model.specs.Requests.{Head, HeadOrNone, unless_bad, body_fault, body_length, start_without};
 ghost use Rattle.arti_wire.specs.Judged.{start_of, LiesWithin};
-ghost use Rattle.arti_model.specs.Requests.{Head, unless_bad, body_fault, body_length, start_without};
 
 use crate::fields::body_of;
 use crate::head::{HEAD_ROOM, Request, read_head, window};
@@ -14,7 +13,7 @@ use std::alloc::{AllocError, Global};
 const LINE_ROOM: usize = 65;
 
 /// What bytes begin with.
-#[derive(Debug, Drop)]
+#[derive(Drop)]
 pub enum Judged {
     /// Nothing.
     End,

@@ -6,7 +6,7 @@ ghost use Rattle.arti_wire.specs.Lines.{StartsSo, IsBehindLine, Follows, SameSea
 use memchr::memchr;
 
 /// What bytes begin with.
-#[derive(Clone, Copy, Debug, PartialEq, Eq)]
+#[derive(Clone, Copy)]
 pub enum FrontByte {
     Nothing,
     /// CR or LF.
@@ -59,7 +59,7 @@ pub fn lines_to_empty(bytes: &[u8]) -> Option<usize>
 }
 
 // What stands directly behind an LF.
-#[derive(Clone, Copy, Debug, PartialEq, Eq)]
+#[derive(Clone, Copy)]
 enum Follower {
     /// An empty line.
     EmptyLine,

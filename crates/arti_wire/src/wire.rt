@@ -19,7 +19,7 @@ use std::marker::Model;
 use thiserror::Error;
 
 /// Where in the stream a wire is.
-#[derive(Clone, Copy, Debug, PartialEq, Eq)]
+#[derive(Clone, Copy, Debug)]
 pub enum Phase {
     /// A head comes next.
     Between,
@@ -39,7 +39,7 @@ pub enum NextHead {
 }
 
 /// A piece of a body.
-#[derive(Clone, Copy, Debug, PartialEq, Eq)]
+#[derive(Clone, Copy, Debug)]
 pub enum Piece {
     /// So many bytes are in the buffer.
     Some(usize),
@@ -49,7 +49,7 @@ pub enum Piece {
     Bad(Why),
 }
 
-#[derive(Clone, Copy, Debug, PartialEq, Eq, Drop, Error)]
+#[derive(Clone, Copy, Debug, Drop, Error)]
 pub enum WireFault {
     #[error("the source failed")]
     Source,
@@ -74,7 +74,7 @@ impl From<AllocError> for WireFault {
 }
 
 /// The reader of one stream of requests. Its buffer is made once.
-#[derive(Debug, Drop)]
+#[derive(Drop)]
 pub struct Wire {
     ahead: Ahead,
     phase: Phase,

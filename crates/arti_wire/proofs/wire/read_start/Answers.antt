@@ -1,5 +1,6 @@
 use Rattle.std.proofs.Common.{◌≡◌, ◌++◌, sym, ap, subst, ◌∙◌, rules}
-use Rattle.arti_wire.specs.Ahead.{HeadOrNone, Decides}
+use Rattle.arti_model.specs.Requests.{HeadOrNone}
+use Rattle.arti_wire.specs.Ahead.{Decides}
 use Rattle.arti_wire.specs.Judged.{start_of}
 use Rattle.arti_wire.specs.Lines.{StartsSo}
 use Rattle.arti_wire.specs.declared.lines.FrontByte.TheVariants.{Byte}
