@@ -3,19 +3,18 @@ use Rattle.std.proofs.Common.{◌≡◌, inl, inr, ℕ, ◌≤◌, ℤ, pos, Lis
 use Rattle.std.proofs.lemmas.List.{append-nil}
 use Rattle.arti_rows.specs.declared.limits.Limits.{Limits}
 use Rattle.arti_ground.specs.State.{Bytes, State, Passes, AfterSync, IsSound}
-use Rattle.arti_ground.proofs.Moments.{passes_map, since_then, since_here}
+use Rattle.arti_ground.specs.Moments.{passes_map, since_then, since_map, since_here, after_map}
 use Rattle.arti_model.specs.Requests as model
 use Rattle.arti_model.specs.Apply.{Holding}
 use Rattle.arti_model.specs.Stock.{Stock}
 use Rattle.arti_model.specs.Run.{moments_from, Recovers}
 use Rattle.arti_store.specs.Store.{View, holding_of, Stands, HoldsStore, Reopening}
-use Rattle.arti_store.proofs.Images.{read_stands}
+use Rattle.arti_store.specs.ImageLaws.{read_stands}
 use Rattle.arti_service.specs.Stocks.{stock_of, IsReady}
 use Rattle.arti_service.specs.Talk.{Answers, AtStreamEnd}
 use Rattle.arti_service.specs.Cuts.{Stops}
 use Rattle.arti_service.specs.Moments.{AtMoment}
-use Rattle.arti_service.proofs.Acting.{image_stands}
-use Rattle.arti_service.proofs.Crashes.{at_start}
+use Rattle.arti_service.specs.CrashLaws.{image_stands, at_start}
 use Rattle.arti_service.specs.declared.conversation.Ending.{Ending}
 use Rattle.arti_service.specs.declared.conversation.Ending.TheVariants as ending
 use Rattle.arti_main.specs.Answered.{status_for, HasStock, Replays, AtInputEnd, beginning, CutSo, AtAnyMoment}
@@ -37,12 +36,7 @@ module _ (limits : Limits) (start : ℕ) (files : Bytes) (input : List ℕ) (tol
   }
 
   pub opening_alone : (old mid : State) → old.files ≡ files → old.told ≡ told → AfterSync old mid (Reopening old limits) → AfterSync old mid (AtAnyMoment limits start files input told)
-  opening_alone old mid same quiet (inl p) = inl (record { from = p.from; after = p.after; within = p.within; since = λ c w left. reopened old same quiet c w (p.since c w left) })
-  opening_alone old mid same quiet (inr reads) = inr reads
-
-later_then : (old mid : State) (P : Bytes → Bytes → Type 0) → AfterSync old mid P → old.moment ≤ mid.moment
-later_then old mid P (inl p) = omega (arith, p.after, p.within)
-later_then old mid P (inr reads) = reads.time.later
+  opening_alone old mid same quiet after = after_map old mid (Reopening old limits) (AtAnyMoment limits start files input told) (reopened old same quiet) after
 
 module _ (one : OneStore) (limits : Limits) (start : ℕ) (input : List ℕ) (old mid new : State) (v : View)
     (was : Stands limits old.files (holding_of (old.files 3) v) v.used) (contents : mid.files 3 ≡ old.files 3) (quiet : mid.told ≡ old.told) where
@@ -60,13 +54,13 @@ module _ (one : OneStore) (limits : Limits) (start : ℕ) (input : List ℕ) (ol
       subst (λ (t : Bytes). AtMoment limits 0 t (Recovers limits limits.requests (moments_from (pos start) limits.requests) s input) c w) quiet
       (subst (λ (x : Stock). AtMoment limits 0 mid.told (Recovers limits limits.requests (moments_from (pos start) limits.requests) x input) c w) (the_stock s has) here)
 
-  pub then_talking : IsSound mid → IsReady limits v → HoldsStore mid v → old.moment ≤ mid.moment → AfterSync old mid (Reopening old limits)
+  pub then_talking : IsSound old → IsSound mid → IsReady limits v → HoldsStore mid v → AfterSync old mid (Reopening old limits)
       → Passes mid new (AtMoment limits 0 mid.told (Recovers limits limits.requests (moments_from (pos start) limits.requests) opened input))
       → AfterSync old new (AtAnyMoment limits start old.files input old.told)
-  then_talking sound ready holds later (inl p) talk =
-      inl (since_then old mid new _ (record { from = p.from; after = p.after; within = p.within; since = λ c w left. reopened limits start old.files input old.told old refl refl c w (p.since c w left) }) (passes_map mid new _ _ talking talk))
-  then_talking sound ready holds later (inr reads) talk =
-      inl (since_here old mid new _ later sound
+  then_talking first sound ready holds (inl p) talk =
+      inl (since_then old mid new _ (since_map old mid _ _ (reopened limits start old.files input old.told old refl refl) p) (passes_map mid new _ _ talking talk))
+  then_talking first sound ready holds (inr reads) talk =
+      inl (since_here old mid new _ first reads sound
       (λ c left. talking c mid.told (record {
         told = [];
         told_is = sym (append-nil (mid.told 0));
@@ -145,9 +139,9 @@ module _ (one : OneStore) (limits : Limits) (start : ℕ) (input : List ℕ) (ol
       subst (λ (t : Bytes). CutSo (status_for e) limits start s input (t 0) (new.told 0)) quiet
       (subst (λ (x : Stock). CutSo (status_for e) limits start x input (mid.told 0) (new.told 0)) (its_stock s has) cut)
 
-  pub crash_so : IsSound mid → IsReady limits v → HoldsStore mid v → AfterSync old mid (Reopening old limits)
+  pub crash_so : IsSound old → IsSound mid → IsReady limits v → HoldsStore mid v → AfterSync old mid (Reopening old limits)
       → Passes mid new (AtMoment limits 0 mid.told (Recovers limits limits.requests moments first input))
       → AfterSync old new (AtAnyMoment limits start old.files input old.told)
-  crash_so sound ready holds time talk =
-      then_talking one limits start input old mid new v was contents quiet sound ready holds (later_then old mid _ time) time
+  crash_so first sound ready holds time talk =
+      then_talking one limits start input old mid new v was contents quiet first sound ready holds time
       (subst (λ (m : List ℤ). Passes mid new (AtMoment limits 0 mid.told (Recovers limits limits.requests m first input))) clock talk)

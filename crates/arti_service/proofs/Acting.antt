@@ -5,10 +5,10 @@ use Rattle.std.proofs.lemmas.List.{append-nil, take-append-le, take_min}
 use Rattle.std.proofs.Math.Seq.{take-append-add}
 use Rattle.arti_rows.specs.declared.limits.Limits.{Limits}
 use Rattle.arti_ground.specs.State.{Bytes, State, Passes, LeavesDisk}
-use Rattle.arti_ground.proofs.Moments.{passes_map, passes_then}
+use Rattle.arti_ground.specs.Moments.{passes_map, passes_then}
 use Rattle.arti_model.specs.Apply.{Holding}
 use Rattle.arti_model.specs.Stock.{Stock}
-use Rattle.arti_store.proofs.Images.{store_leaves}
+use Rattle.arti_store.specs.ImageLaws.{store_leaves}
 use Rattle.arti_store.specs.Store.{View, holding_of, Stands, HoldsOpen, HoldsStore, Standing}
 use Rattle.arti_service.specs.declared.answering.Stop.{Stop}
 use Rattle.arti_service.specs.declared.answering.Stop.TheVariants as stop
@@ -17,14 +17,8 @@ use Rattle.arti_service.specs.Cuts.{TellsFront, StopsTelling, StoppedIn}
 use Rattle.arti_service.specs.Stocks.{stock_of, IsReady}
 use Rattle.arti_service.specs.Moments.{AtMoment, Telling, During, waits, tells}
 use Rattle.arti_service.specs.Acts.{Acts}
+use Rattle.arti_service.specs.CrashLaws.{image_stands}
 use Rattle.arti_service.proofs.Stops.{stops_telling, stopped_more, tells_in, tells_more, on_ok}
-
--- each image stands for the store
-pub image_stands : (limits : Limits) (s : State) (v : View) → IsReady limits v → HoldsStore s v → (c : Bytes) → s.may_leave c → Stands limits c (holding_of (s.files 3) v) v.used
-image_stands limits s v ready holds c left =
-    let h : HoldsOpen s v = holds ready.still_open in
-    subst (λ (l : Limits). Stands l c (holding_of (s.files 3) v) v.used) ready.limits_are
-    (record { bodies = h.bodies; changes = h.changes; kept = v.contents.kept; journal = inr (h.journal.images c left); each = h.each; makes = h.images c left; used_is = h.journal.length_is })
 
 -- a call that leaves the disk leaves the store
 pub leaves_stock : (s s' : State) (v : View) → LeavesDisk s s' → stock_of s' v ≡ stock_of s v

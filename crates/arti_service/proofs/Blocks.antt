@@ -5,7 +5,7 @@ use Rattle.std.proofs.lemmas.List.{take-append-le, take-take, take_all, length-t
 use Rattle.std.proofs.lemmas.Bool.{cases_lt}
 use Rattle.std.proofs.Math.Seq.{take-add}
 use Rattle.arti_ground.specs.State.{Bytes, State, Passes, LeavesDisk, OnlyReads, Reads}
-use Rattle.arti_ground.proofs.Moments.{passes_map, passes_then}
+use Rattle.arti_ground.specs.Moments.{passes_map, passes_then}
 use Rattle.arti_service.specs.declared.answering.Stop.{Stop}
 use Rattle.arti_service.specs.declared.answering.Stop.TheVariants as stop
 use Rattle.arti_service.specs.Cuts.{TellsFront, StopsTelling}

@@ -7,7 +7,7 @@ use Rattle.arti_rows.specs.declared.edits.Change.{Change}
 use Rattle.arti_rows.specs.declared.refusal.Which.{Which}
 use Rattle.arti_rows.specs.declared.refusal.Which.TheVariants as which
 use Rattle.arti_ground.specs.State.{Bytes, State, Passes, LeavesDisk}
-use Rattle.arti_ground.proofs.Moments.{passes_none, passes_map, passes_then}
+use Rattle.arti_ground.specs.Moments.{passes_none, passes_map, passes_then}
 use Rattle.arti_blobs.specs.declared.staging.Staged.{Staged}
 use Rattle.arti_codec.specs.ChangeBytes as codec
 use Rattle.arti_model.specs.Apply.{Holding, apply}
@@ -28,7 +28,8 @@ use Rattle.arti_service.specs.Parts.{full_reply}
 use Rattle.arti_service.specs.Asks.{Tells}
 use Rattle.arti_service.specs.Acts.{Acts, ActsFor}
 use Rattle.arti_service.proofs.Stops.{tells_in, on_ok}
-use Rattle.arti_service.proofs.Acting.{image_stands, leaves_stock, stays, telling_acts, acts_after, standing_moment}
+use Rattle.arti_service.specs.CrashLaws.{image_stands}
+use Rattle.arti_service.proofs.Acting.{leaves_stock, stays, telling_acts, acts_after, standing_moment}
 use Rattle.arti_service.proofs.Accepting.{accept_some, accept_blobs, accept_journal, passes_true, passes_false}
 
 -- no memory was found before anything was done

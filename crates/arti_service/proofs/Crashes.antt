@@ -4,7 +4,7 @@ use Rattle.std.specs.Prelude.{MatchBool, Option, Some, None}
 use Rattle.arti_rows.specs.declared.limits.Limits.{Limits}
 use Rattle.arti_rows.specs.declared.edits.Change.{Change}
 use Rattle.arti_ground.specs.State.{Bytes, State, Passes}
-use Rattle.arti_ground.proofs.Moments.{passes_map}
+use Rattle.arti_ground.specs.Moments.{passes_map}
 use Rattle.arti_model.specs.declared.Why.{Why}
 use Rattle.arti_model.specs.Requests.{Request, Whole, Begins, Head}
 use Rattle.arti_model.specs.Apply.{Holding}
@@ -15,25 +15,13 @@ use Rattle.arti_store.specs.Store.{View, HoldsStore}
 use Rattle.arti_service.specs.Cuts.{Standing, AnswersFirst, AnswersSome, none, more}
 use Rattle.arti_service.specs.Stocks.{stock_of, IsReady}
 use Rattle.arti_service.specs.Moments.{AtMoment, Telling, During, waits, tells, DuringOne}
-use Rattle.arti_service.proofs.Acting.{image_stands, moments_map}
+use Rattle.arti_service.specs.CrashLaws.{image_stands, at_start}
+use Rattle.arti_service.proofs.Acting.{moments_map}
 use Rattle.arti_service.proofs.Talks.{no_requests, goes_by}
 
 count_small : (o : Option Change) → count_of o ≤ 1
 count_small None = omega arith
 count_small (Some c) = omega arith
-
--- nothing was told, and nothing has changed
-pub at_start : (limits : Limits) (most : ℕ) (moments : List ℤ) (s : Stock) (input : List ℕ) → Recovers limits most moments s input [] s.holding
-at_start limits most moments s input = record {
-  requests = [];
-  begins = tt;
-  acknowledged = 0;
-  tells = nothing;
-  accepted = 0;
-  holds = at_first;
-  all = omega arith;
-  one_more = omega arith;
-}
 
 no_more : (b : Bool) (content most : ℕ) (after : List ℕ) → MatchBool b (no_requests ≡ []) (BeginsWith content most after [])
 no_more true content most after = refl

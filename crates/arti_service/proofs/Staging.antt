@@ -3,11 +3,11 @@ use Rattle.std.proofs.Common.{◌≡◌, ap, ◌∙◌, subst}
 use Rattle.std.specs.Prelude.{Option, None}
 use Rattle.arti_rows.specs.declared.limits.Limits.{Limits}
 use Rattle.arti_ground.specs.State.{Bytes, State, Passes, OnlyReads}
-use Rattle.arti_ground.proofs.Moments.{passes_map, passes_then}
+use Rattle.arti_ground.specs.Moments.{passes_map, passes_then}
 use Rattle.arti_blobs.specs.declared.staging.Staging.{Staging}
 use Rattle.arti_model.specs.Apply.{Holding}
 use Rattle.arti_store.specs.Store.{View, holding_of, Stands, HoldsStore, Standing}
-use Rattle.arti_store.proofs.Images.{image_stands}
+use Rattle.arti_store.specs.ImageLaws.{image_stands}
 
 -- a store with that staging
 abbrev pub staging : View → Option Staging → View

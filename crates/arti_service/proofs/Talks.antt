@@ -4,7 +4,6 @@ use Rattle.std.specs.Prelude.{MatchBool}
 use Rattle.std.proofs.lemmas.List.{append-nil}
 use Rattle.std.proofs.lemmas.Bool.{false≢true}
 use Rattle.arti_rows.specs.declared.limits.Limits.{Limits}
-use Rattle.arti_model.proofs.OneReading.{begins_once}
 use Rattle.arti_service.specs.Endings.{IsCutOrFault}
 use Rattle.arti_model.specs.Requests.{Start, Request, Whole, Begins, AtEnd, Head, EndsSo, RequestBytes}
 use Rattle.arti_model.specs.Requests as model
@@ -103,9 +102,10 @@ at_stream_end P Q f ending.Source p = p
 at_stream_end P Q f ending.Memory p = p
 
 -- the stream has more, though no more requests are answered
-pub too_many : (limits : Limits) (most : ℕ) (moments : List ℤ) (s : Stock) (input told : List ℕ) (start : Start) → most ≡ 0 → Begins limits.content input start → (start ≡ AtEnd → ⊥) → Answers limits most moments s input told told s model.TooMany
-too_many limits most moments s input told start zero begins other =
-    ends_untold limits most moments s input model.TooMany told told s refl (zero, λ at_end. other (begins_once limits.content input start AtEnd begins at_end)) refl refl
+pub too_many : ((content : ℕ) (bytes : List ℕ) (s t : Start) → Begins content bytes s → Begins content bytes t → s ≡ t)
+    → (limits : Limits) (most : ℕ) (moments : List ℤ) (s : Stock) (input told : List ℕ) (start : Start) → most ≡ 0 → Begins limits.content input start → (start ≡ AtEnd → ⊥) → Answers limits most moments s input told told s model.TooMany
+too_many once limits most moments s input told start zero begins other =
+    ends_untold limits most moments s input model.TooMany told told s refl (zero, λ at_end. other (once limits.content input start AtEnd begins at_end)) refl refl
 
 pub cut_end : (e : Ending) (P : model.Ending → Type 0) → IsCutOrFault e → (e ≡ ending.Cut → P model.Cut) → AtStreamEnd e P
 cut_end ending.End P h f = absurd h

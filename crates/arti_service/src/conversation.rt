@@ -17,6 +17,7 @@ use crate::answering::{Stop, answer};
 use crate::replies;
 use crate::telling::tell;
 use arti_ground::{Clock, Ground, Source, Steps, Upstream};
+use arti_model::bytes_begin_with_one_thing;
 use arti_rows::Limits;
 use arti_store::Store;
 use arti_wire::{NextHead, Piece, Request, Why, Wire, WireFault};
@@ -271,6 +272,8 @@ fn turn<G: Ground, S: Source, C: Clock>(
     ensures source_fault { IsErrOf result Ending.Source → Rose (S.faults source.old) (S.faults source.new) }
     ensures source_quiet { result ≢ Err Ending.Source → S.faults source.new ≡ S.faults source.old }
 {
+    // For the proof alone: a head that is found is the one thing that the bytes begin with.
+    bytes_begin_with_one_thing();
     match wire.next_head(alloc, source, limits) {
         Err(WireFault::Source) => Err(Ending::Source),
         Err(WireFault::Memory) => Err(Ending::Memory),

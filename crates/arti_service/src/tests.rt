@@ -2,7 +2,7 @@
 ghost use Rattle.std.specs.Prelude.{◌≡◌, ◌<◌};
 
 use crate::{Ending, converse};
-use arti_ground::{ListClock, ListUpstream, MemoryGround, MemorySource, Steps};
+use arti_ground::{Ground, ListClock, ListUpstream, MemoryGround, MemorySource, Steps};
 use arti_rows::{ItemKey, Limits, Moment};
 use arti_store::{OpenFault, Store};
 use arti_wire::Why;
@@ -62,7 +62,7 @@ const DEPLOY_C: &[u8] =
     b"PUT /generic-local/c.txt HTTP/1.1\r\nHost: x\r\nContent-Length: 3\r\n\r\nabc";
 
 const DEPLOY_C_BY_SHA1: &[u8] =
-    b"PUT /generic-local/c.txt HTTP/1.1\r\nHost: x\r\nX-Checksum-Deploy: true\r\nX-Checksum-Sha1: a9993e364706816aba3e25717850c26c9cd0d89d\r\nContent-Length: 0\r\n\r\n";
+    b"PUT /generic-local/c.txt HTTP/1.1\r\nHost: x\r\nX-Checksum-Deploy: true\r\nX-Checksum-Sha1: a9993e364706816aba3e25717850c26c9cd0d89d\r\nContent-Length: 3\r\n\r\nabc";
 
 const CREATED_C: &[u8] =
     b"HTTP/1.1 201 Created\r\nContent-Type: application/json\r\nContent-Length: 293\r\n\r\n{\"repo\":\"generic-local\",\"path\":\"/c.txt\",\"created\":\"1970-01-01T00:00:00.001Z\",\"createdBy\":\"anonymous\",\"size\":\"3\",\"checksums\":{\"md5\":\"900150983cd24fb0d6963f7d28e17f72\",\"sha1\":\"a9993e364706816aba3e25717850c26c9cd0d89d\",\"sha256\":\"ba7816bf8f01cfea414140de5dae2223b00361a396177a9cb410ff61f20015ad\"}}";
@@ -73,7 +73,7 @@ const NO_CONTENT: &[u8] =
     b"HTTP/1.1 404 Not Found\r\nContent-Type: application/json\r\nContent-Length: 49\r\n\r\n{\"errors\":[{\"status\":404,\"message\":\"NoContent\"}]}";
 
 const DEPLOY_BY_NONE: &[u8] =
-    b"PUT /generic-local/c.txt HTTP/1.1\r\nHost: x\r\nX-Checksum-Deploy: true\r\nContent-Length: 0\r\n\r\n";
+    b"PUT /generic-local/c.txt HTTP/1.1\r\nHost: x\r\nX-Checksum-Deploy: true\r\nContent-Length: 3\r\n\r\nabc";
 
 const CHECKSUM_MISSING: &[u8] =
     b"HTTP/1.1 400 Bad Request\r\nContent-Type: application/json\r\nContent-Length: 55\r\n\r\n{\"errors\":[{\"status\":400,\"message\":\"ChecksumMissing\"}]}";
@@ -109,6 +109,11 @@ const DEPLOY_E: &[u8] = b"PUT /generic-local/e HTTP/1.1\r\nHost: x\r\nContent-Le
 
 const CREATED_E: &[u8] =
     b"HTTP/1.1 201 Created\r\nContent-Type: application/json\r\nContent-Length: 289\r\n\r\n{\"repo\":\"generic-local\",\"path\":\"/e\",\"created\":\"1970-01-01T00:00:00.000Z\",\"createdBy\":\"anonymous\",\"size\":\"0\",\"checksums\":{\"md5\":\"d41d8cd98f00b204e9800998ecf8427e\",\"sha1\":\"da39a3ee5e6b4b0d3255bfef95601890afd80709\",\"sha256\":\"e3b0c44298fc1c149afbf4c8996fb92427ae41e4649b934ca495991b7852b855\"}}";
+
+const DEPLOY_F: &[u8] = b"PUT /generic-local/f HTTP/1.1\r\nHost: x\r\nContent-Length: 0\r\n\r\n";
+
+const CREATED_F: &[u8] =
+    b"HTTP/1.1 201 Created\r\nContent-Type: application/json\r\nContent-Length: 289\r\n\r\n{\"repo\":\"generic-local\",\"path\":\"/f\",\"created\":\"1970-01-01T00:00:00.001Z\",\"createdBy\":\"anonymous\",\"size\":\"0\",\"checksums\":{\"md5\":\"d41d8cd98f00b204e9800998ecf8427e\",\"sha1\":\"da39a3ee5e6b4b0d3255bfef95601890afd80709\",\"sha256\":\"e3b0c44298fc1c149afbf4c8996fb92427ae41e4649b934ca495991b7852b855\"}}";
 
 const FULL_BLOBS: &[u8] =
     b"HTTP/1.1 507 Insufficient Storage\r\nContent-Type: application/json\r\nContent-Length: 51\r\n\r\n{\"errors\":[{\"status\":507,\"message\":\"Full: blobs\"}]}";
@@ -196,18 +201,27 @@ fn talk<L: Ledger>(
 #[test]
 fn streams_are_answered(rt: HostRuntime) -> Result<(), Fail> {
     let alloc = rt.alloc();
-    // Requests on a new store, their replies, the end, how much of the journal is used then and how much is kept.
-    let table: &[(&[&[u8]], &[&[u8]], Ending, u64, u64)] = &[
-        (&[], &[], Ending::End, 17, 0),
-        (&[DEPLOY, FETCH], &[CREATED, FETCHED], Ending::End, 212, 3),
-        (&[DEPLOY, CUT_FETCH], &[CREATED], Ending::Cut, 158, 3),
-        (&[CUT_DEPLOY], &[], Ending::Cut, 17, 0),
-        (&[FETCH], &[NOT_FOUND], Ending::End, 17, 0),
+    // Requests on a new store, their replies, the end, and then how much of the journal is used, how much is kept and how many
+    // items there are.
+    let table: &[(&[&[u8]], &[&[u8]], Ending, u64, u64, usize)] = &[
+        (&[], &[], Ending::End, 17, 0, 0),
+        (
+            &[DEPLOY, FETCH],
+            &[CREATED, FETCHED],
+            Ending::End,
+            212,
+            3,
+            2,
+        ),
+        (&[DEPLOY, CUT_FETCH], &[CREATED], Ending::Cut, 158, 3, 2),
+        (&[CUT_DEPLOY], &[], Ending::Cut, 17, 0, 0),
+        (&[FETCH], &[NOT_FOUND], Ending::End, 17, 0, 0),
         (
             &[HEAD, FETCH],
             &[HEAD_NOT_YET, NOT_FOUND],
             Ending::End,
             17,
+            0,
             0,
         ),
         (
@@ -216,6 +230,7 @@ fn streams_are_answered(rt: HostRuntime) -> Result<(), Fail> {
             Ending::Bad(Why::BadLength),
             17,
             0,
+            0,
         ),
         (
             &[DEPLOY, DEPLOY_D, QUERY, FETCH],
@@ -223,12 +238,14 @@ fn streams_are_answered(rt: HostRuntime) -> Result<(), Fail> {
             Ending::End,
             353,
             4,
+            2,
         ),
         (
             &[DEPLOY, DEPLOY_C],
             &[CREATED, CREATED_C],
             Ending::End,
             299,
+            3,
             3,
         ),
         (
@@ -237,6 +254,15 @@ fn streams_are_answered(rt: HostRuntime) -> Result<(), Fail> {
             Ending::End,
             291,
             0,
+            1,
+        ),
+        (
+            &[DEPLOY_E, DEPLOY_F],
+            &[CREATED_E, CREATED_F],
+            Ending::End,
+            291,
+            0,
+            2,
         ),
         (
             &[DEPLOY, DEPLOY_UNDER, DEPLOY_ABOVE],
@@ -244,9 +270,10 @@ fn streams_are_answered(rt: HostRuntime) -> Result<(), Fail> {
             Ending::End,
             158,
             3,
+            2,
         ),
     ];
-    for (requests, replies, end, used, kept) in table {
+    for (requests, replies, end, used, kept, items) in table {
         let most = Limits::standard();
         let mut ground = MemoryGround::new(alloc, 100, 10_000)?;
         let input = joined(alloc, requests)?;
@@ -256,37 +283,76 @@ fn streams_are_answered(rt: HostRuntime) -> Result<(), Fail> {
         let store = Store::open(alloc, &mut ground, &most)?;
         assert_eq!(rt; store.used(), *used);
         assert_eq!(rt; store.kept_length(), *kept);
+        assert_eq!(rt; store.items().len(), *items);
     }
     Ok(())
 }
 
+// What the contents file has before the first request: free bytes, which no change names.
+const FREE: &[u8] = b"????????";
+
 #[test]
 fn digests_are_minded(rt: HostRuntime) -> Result<(), Fail> {
     let alloc = rt.alloc();
-    // Requests on a new store, their replies, and how much of the journal is used then.
-    let table: &[(&[&[u8]], &[&[u8]], u64)] = &[
-        (&[DEPLOY_ALL_RIGHT, FETCH], &[CREATED, FETCHED], 212),
+    // Requests on a new store whose contents file has free bytes, their replies, how much of the journal is used then, how much
+    // is kept, and the contents file. A content that is refused was staged and isn't kept, so the next one takes its place. A
+    // deploy by digests writes nothing there, whatever its body is.
+    let table: &[(&[&[u8]], &[&[u8]], u64, u64, &[u8])] = &[
+        (
+            &[DEPLOY_ALL_RIGHT, FETCH],
+            &[CREATED, FETCHED],
+            212,
+            3,
+            b"abc?????",
+        ),
         (
             &[DEPLOY, DEPLOY_C_BY_SHA1, FETCH_C],
             &[CREATED, CREATED_C, FETCHED],
             353,
+            3,
+            b"abc?????",
         ),
-        (&[DEPLOY_C_BY_SHA1], &[NO_CONTENT], 17),
-        (&[DEPLOY_BY_NONE], &[CHECKSUM_MISSING], 17),
-        (&[DEPLOY_BAD_SHA1], &[BAD_HEADER], 17),
-        (&[DEPLOY_OTHER_MD5], &[MISMATCH_MD5], 17),
-        (&[DEPLOY_OTHER_SHA1], &[MISMATCH_SHA1], 17),
-        (&[DEPLOY_OTHER_SHA256], &[MISMATCH_SHA256], 17),
+        (&[DEPLOY_C_BY_SHA1], &[NO_CONTENT], 17, 0, FREE),
+        (&[DEPLOY_BY_NONE], &[CHECKSUM_MISSING], 17, 0, FREE),
+        (&[DEPLOY_BAD_SHA1], &[BAD_HEADER], 17, 0, FREE),
+        (&[DEPLOY_OTHER_MD5], &[MISMATCH_MD5], 17, 0, b"d???????"),
+        (&[DEPLOY_OTHER_SHA1], &[MISMATCH_SHA1], 17, 0, b"d???????"),
+        (
+            &[DEPLOY_OTHER_SHA256],
+            &[MISMATCH_SHA256],
+            17,
+            0,
+            b"d???????",
+        ),
+        (
+            &[DEPLOY_OTHER_MD5, DEPLOY_C, FETCH_C],
+            &[MISMATCH_MD5, CREATED_C, FETCHED],
+            212,
+            3,
+            b"abc?????",
+        ),
+        (
+            &[DEPLOY, DEPLOY_OTHER_MD5],
+            &[CREATED, MISMATCH_MD5],
+            158,
+            3,
+            b"abcd????",
+        ),
     ];
-    for (requests, replies, used) in table {
+    for (requests, replies, used, kept, contents) in table {
         let most = Limits::standard();
         let mut ground = MemoryGround::new(alloc, 100, 10_000)?;
+        ground.write_at(3, 0, FREE)?;
         let input = joined(alloc, requests)?;
         let ending = talk::<Brand>(alloc, &mut ground, &most, input, Blank::new(1))?;
         assert_eq!(rt; ending, Ending::End);
         assert_eq!(rt; ground.told(alloc, 0)?, joined(alloc, replies)?);
+        let mut bytes = [0u8; 9];
+        assert_eq!(rt; ground.read(3, 0, &mut bytes), Ok(8));
+        assert_eq!(rt; &bytes[..8], *contents);
         let store = Store::open(alloc, &mut ground, &most)?;
         assert_eq!(rt; store.used(), *used);
+        assert_eq!(rt; store.kept_length(), *kept);
     }
     Ok(())
 }

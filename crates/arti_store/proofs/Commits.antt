@@ -11,7 +11,7 @@ use Rattle.arti_rows.specs.declared.rows.FileRef.{FileRef}
 use Rattle.arti_rows.specs.declared.rows.ItemRow.{ItemRow}
 use Rattle.arti_rows.specs.declared.edits.Change.{Change}
 use Rattle.arti_ground.specs.State.{Bytes, State, IsDurable, Passes}
-use Rattle.arti_ground.proofs.Moments.{passes_map}
+use Rattle.arti_ground.specs.Moments.{passes_map}
 use Rattle.arti_journal.specs.Journal.{HoldsJournal, Appending, header, records, opened}
 use Rattle.arti_blobs.specs.declared.staging.Staged.{Staged}
 use Rattle.arti_blobs.specs.Contents.{Contents, content, end_of, Keeps, kept_with, staged_length}
@@ -22,7 +22,8 @@ use Rattle.arti_store.specs.Items.{file_in, items_in}
 use Rattle.arti_store.specs.Changes.{references_of, references}
 use Rattle.arti_store.specs.Edited.{rows_edited_by}
 use Rattle.arti_store.specs.Store.{View, holding_of, Accepted, AreDistinct, Makes, HoldsOpen, kept_and, MayKeep, IsFresh, IsStaged, AddsSome, PassesBlobs, Committing}
-use Rattle.arti_store.proofs.References.{end_push, keeps_then, keeps_none, keeps_one, references-push, fresh_not_kept, distinct_push}
+use Rattle.arti_store.specs.ImageLaws.{end_push}
+use Rattle.arti_store.proofs.References.{keeps_then, keeps_none, keeps_one, references-push, fresh_not_kept, distinct_push}
 use Rattle.arti_store.proofs.Holdings.{change_seen}
 
 -- ---- one change more

@@ -23,7 +23,8 @@ use Rattle.arti_store.specs.Items.{file_in, item_in, items_in, HasFileIn, find_r
 use Rattle.arti_store.specs.Changes.{edit_references, references_of, references}
 use Rattle.arti_store.specs.Edited.{has_row, missing_above, folder_row, folders_for, file_row, counted_row, rows_edited, rows_edited_by, rows_after, accepts_changes}
 use Rattle.arti_store.specs.Store.{AreDistinct, Makes}
-use Rattle.arti_store.proofs.References.{keeps_front, keeps_each, keeps_within}
+use Rattle.arti_store.specs.ImageLaws.{keeps_within}
+use Rattle.arti_store.proofs.References.{keeps_front, keeps_each}
 use Rattle.arti_store.proofs.Views.{items_applied}
 use Rattle.arti_store.proofs.Verdicts.{accepted_seen, accepts_seen}
 

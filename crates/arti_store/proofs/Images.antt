@@ -4,7 +4,7 @@ use Rattle.std.specs.Prelude.{All}
 use Rattle.std.proofs.lemmas.List.Elements.{All-weaker}
 use Rattle.arti_rows.specs.declared.rows.FileRef.{FileRef}
 use Rattle.arti_ground.specs.State.{Bytes, State, LeavesDisk, Passes, Follows}
-use Rattle.arti_ground.proofs.Moments.{passes_map}
+use Rattle.arti_ground.specs.Moments.{passes_map}
 use Rattle.arti_journal.specs.Journal.{StandsFor}
 use Rattle.arti_blobs.specs.declared.staging.Staging.{Staging}
 use Rattle.arti_blobs.specs.Contents.{content, end_of, HoldsContents, KeepsFront, Behind}
@@ -12,30 +12,7 @@ use Rattle.arti_model.specs.Apply.{Holding}
 use Rattle.arti_store.specs.Items.{HasFileIn}
 use Rattle.arti_store.specs.Changes.{references}
 use Rattle.arti_store.specs.Store.{View, holding_of, Makes, Stands, HoldsOpen, HoldsStore, Standing}
-use Rattle.arti_store.proofs.References.{content_length, each_within}
 use Rattle.arti_store.proofs.Holdings.{makes_stays, seen_stays}
-
-pub image_stands : (s : State) (v : View) → HoldsOpen s v → (c : Bytes) → s.may_leave c → Stands v.limits c (holding_of (s.files 3) v) v.used
-image_stands s v holds c left = record {
-  bodies = holds.bodies;
-  changes = holds.changes;
-  kept = v.contents.kept;
-  journal = inr (holds.journal.images c left);
-  each = holds.each;
-  makes = holds.images c left;
-  used_is = holds.journal.length_is;
-}
-
-pub read_stands : (s : State) (v : View) → HoldsOpen s v → Stands v.limits s.files (holding_of (s.files 3) v) v.used
-read_stands s v holds = record {
-  bodies = holds.bodies;
-  changes = holds.changes;
-  kept = v.contents.kept;
-  journal = inr holds.journal.reads;
-  each = holds.each;
-  makes = holds.reads;
-  used_is = holds.journal.length_is;
-}
 
 -- ---- calls that leave what is kept
 
@@ -84,39 +61,3 @@ module _ (old new : State) (v : View) (staging : Option Staging) (has : All (Has
       used_is = holds.journal.length_is;
     };
   }) passes
-
--- calls that read leave it too
-pub reads_front : (end : ℕ) (old new : State) → LeavesDisk old new → KeepsFront end old.files new.files × Follows (KeepsFront end) old new
-reads_front end old new disk = (
-  record { here = ap (λ (b : Bytes). take end (b 3)) disk.files; others = λ f ne. ap (λ (b : Bytes). b f) disk.files },
-  λ c left. (c, disk.images c left, record { here = refl; others = λ f ne. refl }),
-)
-
--- a call that leaves the disk leaves the store
-pub disk_stays : (old new : State) (v : View) → LeavesDisk old new → HoldsOpen old v → HoldsOpen new v
-disk_stays old new v disk holds =
-    let third : new.files 3 ≡ old.files 3 = ap (λ (b : Bytes). b 3) disk.files in
-    record {
-      bodies = holds.bodies;
-      changes = holds.changes;
-      journal = record {
-        reads = subst (λ (b : Bytes). StandsFor holds.bodies (b 1)) (sym disk.files) holds.journal.reads;
-        images = λ c left. holds.journal.images c (disk.images c left);
-        length_is = holds.journal.length_is;
-      };
-      each = holds.each;
-      reads = subst (λ (b : List ℕ). Makes v.limits holds.changes b v.contents.kept (holding_of b v)) (sym third) holds.reads;
-      images = λ c left. subst (λ (b : List ℕ). Makes v.limits holds.changes (c 3) v.contents.kept (holding_of b v)) (sym third) (holds.images c (disk.images c left));
-      contents = omega (arith, holds.contents, ap length third);
-    }
-
--- the same, where the store may be closed
-pub store_leaves : (old new : State) (v : View) → LeavesDisk old new → HoldsStore old v → HoldsStore new v
-store_leaves old new v disk holds = λ still_open. disk_stays old new v disk (holds still_open)
-
--- each kept content stands whole in the file
-pub contents_whole : (s : State) (v : View) → HoldsOpen s v → All (λ file. length (content (s.files 3) file) ≡ file.len) v.contents.kept
-contents_whole s v holds =
-    let bytes = s.files 3 in
-    All-weaker (λ (f : FileRef). f.place + f.len ≤ length bytes) (λ (f : FileRef). length (content bytes f) ≡ f.len) (λ f le. content_length bytes f le) v.contents.kept
-    (each_within bytes (references holds.changes) v.contents.kept holds.reads.refer holds.reads.within)

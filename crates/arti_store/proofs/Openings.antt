@@ -10,7 +10,7 @@ use Rattle.arti_rows.specs.declared.rows.FileRef.{FileRef}
 use Rattle.arti_rows.specs.declared.rows.ItemRow.{ItemRow}
 use Rattle.arti_rows.specs.declared.edits.Change.{Change}
 use Rattle.arti_ground.specs.State.{Bytes, State, IsDurable, Passes, OnlyReads, SinceSync, AfterSync}
-use Rattle.arti_ground.proofs.Moments.{passes_map, reads_then, since_then}
+use Rattle.arti_ground.specs.Moments.{passes_map, reads_then, since_then, since_map, after_map}
 use Rattle.arti_journal.specs.Journal.{IsJournal, StandsFor, HoldsJournal, Opening, header, opened_record, records, opened}
 use Rattle.arti_blobs.specs.Contents.{end_of, Keeps, IsSame, AllDiffer, staged_length}
 use Rattle.arti_codec.specs.ChangeBytes.{ChangeBytes}
@@ -20,7 +20,8 @@ use Rattle.arti_store.specs.Changes.{references}
 use Rattle.arti_store.specs.Edited.{rows_after}
 use Rattle.arti_store.specs.Replays.{Replays, ReplaysNot}
 use Rattle.arti_store.specs.Store.{View, holding_of, AreDistinct, Makes, Stands, HoldsOpen, Reopening}
-use Rattle.arti_store.proofs.References.{content_length, each_within, keeps_each}
+use Rattle.arti_store.specs.ImageLaws.{content_length, each_within}
+use Rattle.arti_store.proofs.References.{keeps_each}
 use Rattle.arti_store.proofs.Holdings.{makes_seen, makes_accepts, seen, has_after}
 use Rattle.arti_store.proofs.Redoing.{zip_once}
 
@@ -96,12 +97,8 @@ reopens start limits c w at = record {
   };
 }
 
-since_map : (a b : State) (P Q : Bytes → Bytes → Type 0) → ((c w : Bytes) → P c w → Q c w) → SinceSync a b P → SinceSync a b Q
-since_map a b P Q f p = record { from = p.from; after = p.after; within = p.within; since = λ c w left. f c w (p.since c w left) }
-
 pub journal_opened : (old mid : State) (limits : Limits) → AfterSync old mid (Opening old 1) → AfterSync old mid (Reopening old limits)
-journal_opened old mid limits (inl since) = inl (since_map old mid (Opening old 1) (Reopening old limits) (reopens old limits) since)
-journal_opened old mid limits (inr reads) = inr reads
+journal_opened old mid limits after = after_map old mid (Opening old 1) (Reopening old limits) (reopens old limits) after
 
 -- and then reads
 pub then_read : (old mid new : State) (limits : Limits) → AfterSync old mid (Opening old 1) → IsDurable mid → Opening old 1 mid.files mid.told → OnlyReads mid new → AfterSync old new (Reopening old limits)

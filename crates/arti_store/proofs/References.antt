@@ -14,9 +14,6 @@ use Rattle.arti_store.specs.Items.{file_in}
 use Rattle.arti_store.specs.Changes.{edit_references, references_of, references}
 use Rattle.arti_store.specs.Store.{AreDistinct, IsFresh}
 
-pub end_push : (kept : List FileRef) (file : FileRef) → end_of (kept ++ file ∷ []) ≡ end_of kept + file.len
-end_push kept file = sum_by_push (λ (f : FileRef). f.len) kept file
-
 -- the kept ones from before stand at the front
 pub keeps_front : (files kept all : List FileRef) → Keeps kept files all → (more : List FileRef) × (all ≡ kept ++ more)
 keeps_front [] kept all keeps = ([], keeps ∙ sym (append-nil kept))
@@ -37,27 +34,6 @@ keeps_each (file ∷ files) kept all (inl old) =
     All-cons (Contains all) file files (keeps_old files kept all file old.1 old.0) (keeps_each files kept all old.1)
 keeps_each (file ∷ files) kept all (inr new) =
     All-cons (Contains all) file files (keeps_old files (kept ++ file ∷ []) all file new.2 (Contains-push kept file)) (keeps_each files (kept ++ file ∷ []) all new.2)
-
--- each ends where all of them end or before
-pub keeps_within : (files kept all : List FileRef) → All (λ file. file.place + file.len ≤ end_of kept) kept → Keeps kept files all → All (λ file. file.place + file.len ≤ end_of all) all
-keeps_within [] kept all within keeps = subst (λ (l : List FileRef). All (λ file. file.place + file.len ≤ end_of l) l) (sym keeps) within
-keeps_within (file ∷ files) kept all within (inl old) = keeps_within files kept all within old.1
-keeps_within (file ∷ files) kept all within (inr new) =
-    let more : end_of (kept ++ file ∷ []) ≡ end_of kept + file.len = end_push kept file in
-    keeps_within files (kept ++ file ∷ []) all
-    (All-push (λ (f : FileRef). f.place + f.len ≤ end_of (kept ++ file ∷ [])) kept file
-    (All-weaker (λ (f : FileRef). f.place + f.len ≤ end_of kept) (λ (f : FileRef). f.place + f.len ≤ end_of (kept ++ file ∷ [])) (λ f le. omega arith) kept within)
-    (omega (arith, more, new.1)))
-    new.2
-
--- the bytes of a reference that lies within the file
-pub content_length : (bytes : List ℕ) (file : FileRef) → file.place + file.len ≤ length bytes → length (content bytes file) ≡ file.len
-content_length bytes file le = omega (arith, length-take file.len (drop file.place bytes), length-drop file.place bytes)
-
-pub each_within : (bytes : List ℕ) (files kept : List FileRef) → Keeps [] files kept → end_of kept ≤ length bytes → All (λ file. file.place + file.len ≤ length bytes) kept
-each_within bytes files kept keeps le =
-    All-weaker (λ (f : FileRef). f.place + f.len ≤ end_of kept) (λ (f : FileRef). f.place + f.len ≤ length bytes) (λ f h. omega arith) kept
-    (keeps_within files [] kept (All-nil (λ (f : FileRef). f.place + f.len ≤ 0)) keeps)
 
 -- one after the other
 pub keeps_then : (files more kept mid all : List FileRef) → Keeps kept files mid → Keeps mid more all → Keeps kept (files ++ more) all

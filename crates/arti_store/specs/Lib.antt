@@ -4,3 +4,4 @@ pub mod Changes
 pub mod Edited
 pub mod Store
 pub mod Replays
+pub mod ImageLaws

@@ -58,4 +58,4 @@ returns-clause-crash g c = λ gt st.
     let ready : IsReady c.args.limits.now c.in-Ok.store = record { still_open = c.in-Ok.ensures.still_open; limits_are = c.in-Ok.ensures.limits; unstaged = c.in-Ok.ensures.staging } in
     crash_so c.files_stand_for_one_store.ensures c.args.limits.now c.args.start (g.S.Source.left c.args.source.now) old (g.G.Ground.state c.open.new.outside) (g.G.Ground.state c.converse-ending.new.ground) c.in-Ok.store
     (c.in-Ok.ensures.stands gt) (c.in-Ok.ensures.contents gt) (c.open.ensures.told gt) c.new-clock.result c.new-clock.ensures
-    (g.met.G.Ground.sound c.open.new.outside gt) ready (c.in-Ok.ensures.holds gt) (c.open.ensures.moments gt) (c.converse-ending.ensures.moments gt st tt)
+    (g.met.G.Ground.sound c.args.ground.now gt) (g.met.G.Ground.sound c.open.new.outside gt) ready (c.in-Ok.ensures.holds gt) (c.open.ensures.moments gt) (c.converse-ending.ensures.moments gt st tt)

@@ -2,7 +2,7 @@ use Rattle.std.proofs.Common.{◌≡◌, length, subst}
 use Rattle.std.proofs.lemmas.List.Elements.{All-contains}
 use Rattle.arti_rows.specs.declared.rows.FileRef.{FileRef}
 use Rattle.arti_blobs.specs.Contents.{content}
-use Rattle.arti_store.proofs.Images.{contents_whole}
+use Rattle.arti_store.specs.ImageLaws.{contents_whole}
 use Rattle.arti_wire.specs.Fields.{texts_of}
 use Rattle.arti_service.specs.declared.deploys.Judgement.{Judgement}
 use Rattle.arti_service.specs.Judged.{JudgedSo}

@@ -3,7 +3,7 @@ use Rattle.std.specs.Prelude.{IfErr, OnOk}
 use Rattle.arti_ground.specs.State.{Passes}
 use Rattle.arti_model.specs.Step.{query}
 use Rattle.arti_model.specs.Run.{memory_reply}
-use Rattle.arti_store.proofs.Images.{contents_whole}
+use Rattle.arti_store.specs.ImageLaws.{contents_whole}
 use Rattle.arti_service.specs.Asks.{MayReply, only_reads}
 use Rattle.arti_service.specs.declared.answering.Asked.TheVariants as asked
 use Rattle.arti_service.specs.Cuts.{StopsTelling}

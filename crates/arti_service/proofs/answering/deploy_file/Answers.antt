@@ -10,7 +10,7 @@ use Rattle.arti_model.specs.Step.{anonymous}
 use Rattle.arti_store.specs.Items.{file_in}
 use Rattle.arti_store.specs.Changes.{references_of}
 use Rattle.arti_store.specs.Store.{holding_of, kept_and, PassesBlobs}
-use Rattle.arti_store.proofs.Images.{contents_whole}
+use Rattle.arti_store.specs.ImageLaws.{contents_whole}
 use Rattle.arti_service.specs.Acts.{ActsFor}
 use Rattle.arti_service.specs.Stocks.{stock_of}
 use Rattle.arti_service.proofs.Accepting.{deploy_fills}

@@ -2,7 +2,7 @@ use Rattle.std.proofs.lemmas.List.{length-take}
 use Rattle.std.proofs.Common.{length, drop, length-append, ◌≡◌, ◌++◌, ℕ, refl, ap, ◌∙◌, subst, arith, rules}
 use Rattle.std.specs.Prelude.{Err}
 use Rattle.arti_ground.specs.State.{Rose}
-use Rattle.arti_ground.proofs.Moments.{passes_none, passes_then}
+use Rattle.arti_ground.specs.Moments.{passes_none, passes_then}
 use Rattle.arti_service.specs.declared.conversation.Ending.{Ending}
 use Rattle.arti_service.specs.Stocks.{stock_of}
 use Rattle.arti_service.proofs.Talks.{goes_through, starts_so, goes_so}

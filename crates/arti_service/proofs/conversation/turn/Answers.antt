@@ -13,20 +13,20 @@ use Rattle.arti_service.proofs.conversation.turn.Goals as goal
 pub returns-then-most-eq0-clause-ends : goal.returns-then-most-eq0-clause-ends
 returns-then-most-eq0-clause-ends g c = λ gt st ct.
     let input : List ℕ = c.args.wire.now.ahead ++ g.S.Source.left c.args.source.now in
-    too_many c.args.limits.now c.args.most (g.C.Clock.moments c.args.clock.now) (stock_of (g.G.Ground.state c.args.ground.now) c.args.store.now) input ((g.G.Ground.state c.args.ground.now).told c.args.line)
+    too_many c.bytes_begin_with_one_thing.ensures c.args.limits.now c.args.most (g.C.Clock.moments c.args.clock.now) (stock_of (g.G.Ground.state c.args.ground.now) c.args.store.now) input ((g.G.Ground.state c.args.ground.now).told c.args.line)
     AtCut c.if-most-eq0.true (subst (λ (x : NextHead). AnswersStart c.args.limits.now.content input x c.next_head.new.self.phase (c.next_head.new.self.ahead ++ g.S.Source.left c.next_head.new.source)) c.in-Ok-Cut.field-0-is (c.in-Ok-Cut.ensures.starts st)) (λ e. cc)
 
 pub returns-then-most-eq0-2-clause-ends : goal.returns-then-most-eq0-2-clause-ends
 returns-then-most-eq0-2-clause-ends g c = λ gt st ct.
     let input : List ℕ = c.args.wire.now.ahead ++ g.S.Source.left c.args.source.now in
-    too_many c.args.limits.now c.args.most (g.C.Clock.moments c.args.clock.now) (stock_of (g.G.Ground.state c.args.ground.now) c.args.store.now) input ((g.G.Ground.state c.args.ground.now).told c.args.line)
+    too_many c.bytes_begin_with_one_thing.ensures c.args.limits.now c.args.most (g.C.Clock.moments c.args.clock.now) (stock_of (g.G.Ground.state c.args.ground.now) c.args.store.now) input ((g.G.Ground.state c.args.ground.now).told c.args.line)
     (AtBad c.in-Ok-Bad.why) c.if-most-eq0-2.true (subst (λ (x : NextHead). AnswersStart c.args.limits.now.content input x c.next_head.new.self.phase (c.next_head.new.self.ahead ++ g.S.Source.left c.next_head.new.source)) c.in-Ok-Bad.field-0-is (c.in-Ok-Bad.ensures.starts st)) (λ e. cc)
 
 pub returns-then-most-eq0-3-clause-ends : goal.returns-then-most-eq0-3-clause-ends
 returns-then-most-eq0-3-clause-ends g c = λ gt st ct.
     let input : List ℕ = c.args.wire.now.ahead ++ g.S.Source.left c.args.source.now in
     let rest : List ℕ = c.next_head.new.self.ahead ++ g.S.Source.left c.next_head.new.source in
-    too_many c.args.limits.now c.args.most (g.C.Clock.moments c.args.clock.now) (stock_of (g.G.Ground.state c.args.ground.now) c.args.store.now) input ((g.G.Ground.state c.args.ground.now).told c.args.line)
+    too_many c.bytes_begin_with_one_thing.ensures c.args.limits.now c.args.most (g.C.Clock.moments c.args.clock.now) (stock_of (g.G.Ground.state c.args.ground.now) c.args.store.now) input ((g.G.Ground.state c.args.ground.now).told c.args.line)
     (Head c.in-Ok-Head.request (body_left c.next_head.new.self.phase) rest) c.if-most-eq0-3.true (subst (λ (x : NextHead). AnswersStart c.args.limits.now.content input x c.next_head.new.self.phase (c.next_head.new.self.ahead ++ g.S.Source.left c.next_head.new.source)) c.in-Ok-Head.field-0-is (c.in-Ok-Head.ensures.starts st)) (λ e. cc)
 
 pub returns-in-Ok-End-clause-ends : goal.returns-in-Ok-End-clause-ends
