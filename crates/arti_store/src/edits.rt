@@ -16,10 +16,28 @@ pub(crate) fn do_all(alloc: Global, rows: &mut Rows, change: Change) -> Result<(
     ensures done { OnOk result (rows.new ≡ rows_edited_by change.moment change.user change.edits rows.old) }
     ensures files { (kept : List FileRef) → All (HasFileIn kept) rows.old → All (Contains kept) (references_of change.edits) → All (HasFileIn kept) rows.new }
 {
-    let moment = change.moment;
-    let user = change.user;
-    for edit in change.edits.into_vec() {
-        do_one(alloc, rows, moment, &user, edit)?;
+    do_each(
+        alloc,
+        rows,
+        change.moment,
+        &change.user,
+        change.edits.as_slice(),
+    )
+}
+
+// Does edits, which are borrowed, since a function that drops an edit is proved for the drop of each kind.
+fn do_each(
+    alloc: Global,
+    rows: &mut Rows,
+    moment: Moment,
+    user: &Text,
+    edits: &[Edit],
+) -> Result<(), AllocError>
+    ensures done { OnOk result (rows.new ≡ rows_edited_by moment user.now edits.now rows.old) }
+    ensures files { (kept : List FileRef) → All (HasFileIn kept) rows.old → All (Contains kept) (references_of edits.now) → All (HasFileIn kept) rows.new }
+{
+    for edit in edits {
+        do_one(alloc, rows, moment, user, edit)?;
     }
     Ok(())
 }
@@ -30,9 +48,9 @@ pub(crate) fn do_one(
     rows: &mut Rows,
     moment: Moment,
     user: &Text,
-    edit: Edit,
+    edit: &Edit,
 ) -> Result<(), AllocError>
-    ensures done { OnOk result (rows.new ≡ rows_edited moment user.now edit rows.old) }
+    ensures done { OnOk result (rows.new ≡ rows_edited moment user.now edit.now rows.old) }
     ensures unchanged { OnErr result (rows.new ≡ rows.old) }
 {
     match edit {
@@ -42,8 +60,8 @@ pub(crate) fn do_one(
             given,
             file,
             props,
-        } => put_file(alloc, rows, moment, user, key, given, file, props),
-        Edit::Downloaded { key } => rows.count(moment, user, &key),
+        } => put_file(alloc, rows, moment, user, key, *given, *file, props),
+        Edit::Downloaded { key } => rows.count(moment, user, key),
         _ => Ok(()),
     }
 }
@@ -54,16 +72,16 @@ fn put_folder(
     rows: &mut Rows,
     moment: Moment,
     user: &Text,
-    key: ItemKey,
+    key: &ItemKey,
 ) -> Result<(), AllocError>
-    ensures done { OnOk result (rows.new ≡ rows_with_folder rows.old moment user.now key) }
+    ensures done { OnOk result (rows.new ≡ rows_with_folder rows.old moment user.now key.now) }
     ensures unchanged { OnErr result (rows.new ≡ rows.old) }
 {
-    if rows.has(&key) {
+    if rows.has(key) {
         return Ok(());
     }
-    let mut news = folders_for(alloc, rows, moment, user, &key)?;
-    news.push(folder_row(alloc, moment, user, key)?)?;
+    let mut news = folders_for(alloc, rows, moment, user, key)?;
+    news.push(folder_row(alloc, moment, user, key.clone()?)?)?;
     rows.put_all(news)
 }
 
@@ -73,26 +91,37 @@ fn put_file(
     rows: &mut Rows,
     moment: Moment,
     user: &Text,
-    key: ItemKey,
+    key: &ItemKey,
     given: Given,
     file: FileRef,
-    props: Seq<Property>,
+    props: &Seq<Property>,
 ) -> Result<(), AllocError>
-    ensures done { OnOk result (rows.new ≡ rows_with_file rows.old moment user.now key given file props) }
+    ensures done { OnOk result (rows.new ≡ rows_with_file rows.old moment user.now key.now given file props.now) }
     ensures unchanged { OnErr result (rows.new ≡ rows.old) }
 {
-    let mut news = folders_for(alloc, rows, moment, user, &key)?;
+    let mut news = folders_for(alloc, rows, moment, user, key)?;
     let new = file_row(
         moment,
         user,
-        rows.find(&key),
+        rows.find(key),
         key.clone()?,
         given,
         file,
-        props,
+        Seq::from_vec(copies(alloc, props.as_slice())?),
     )?;
     news.push(new)?;
     rows.put_all(news)
+}
+
+// A copy of properties.
+fn copies(alloc: Global, props: &[Property]) -> Result<Vec<Property>, AllocError>
+    ensures { IfOk result (λ v. v.items ≡ props.now) }
+{
+    let mut copies = Vec::with_capacity(alloc, props.len())?;
+    for pair in props {
+        copies.push(pair.clone()?)?;
+    }
+    Ok(copies)
 }
 
 // The folders above a key that are missing.

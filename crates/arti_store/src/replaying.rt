@@ -51,10 +51,33 @@ fn redo(
     ensures rows { IfOk result (λ b. IsTrue b → rows.new ≡ rows_edited_by change.moment change.user change.edits rows.old) }
     ensures files { IfOk result (λ b. IsTrue b → files.new.items ≡ files.old.items ++ references_of change.edits) }
 {
-    let moment = change.moment;
-    let user = change.user;
-    'edits: for edit in change.edits.into_vec() {
-        if !redo_one(alloc, limits, rows, files, moment, &user, edit)? {
+    redo_each(
+        alloc,
+        limits,
+        rows,
+        files,
+        change.moment,
+        &change.user,
+        change.edits.as_slice(),
+    )
+}
+
+// Does edits again, or tells that one isn't accepted.
+fn redo_each(
+    alloc: Global,
+    limits: &Limits,
+    rows: &mut Rows,
+    files: &mut Vec<FileRef>,
+    moment: Moment,
+    user: &Text,
+    edits: &[Edit],
+) -> Result<bool, AllocError>
+    ensures accepted { IfOk result (λ b. b ≡ accepts_edits limits.now moment user.now edits.now rows.old) }
+    ensures rows { IfOk result (λ b. IsTrue b → rows.new ≡ rows_edited_by moment user.now edits.now rows.old) }
+    ensures files { IfOk result (λ b. IsTrue b → files.new.items ≡ files.old.items ++ references_of edits.now) }
+{
+    for edit in edits {
+        if !redo_one(alloc, limits, rows, files, moment, user, edit)? {
             return Ok(false);
         }
     }
@@ -69,13 +92,13 @@ fn redo_one(
     files: &mut Vec<FileRef>,
     moment: Moment,
     user: &Text,
-    edit: Edit,
+    edit: &Edit,
 ) -> Result<bool, AllocError>
-    ensures accepted { IfOk result (λ b. b ≡ accepts_edit limits.now edit rows.old) }
-    ensures rows { IfOk result (λ b. IsTrue b → rows.new ≡ rows_edited moment user.now edit rows.old) }
-    ensures files { IfOk result (λ b. IsTrue b → files.new.items ≡ files.old.items ++ edit_references edit) }
+    ensures accepted { IfOk result (λ b. b ≡ accepts_edit limits.now edit.now rows.old) }
+    ensures rows { IfOk result (λ b. IsTrue b → rows.new ≡ rows_edited moment user.now edit.now rows.old) }
+    ensures files { IfOk result (λ b. IsTrue b → files.new.items ≡ files.old.items ++ edit_references edit.now) }
 {
-    match judge(alloc, limits, rows, files, &edit) {
+    match judge(alloc, limits, rows, files, edit) {
         Ok(true) => match do_one(alloc, rows, moment, user, edit) {
             Ok(()) => Ok(true),
             Err(fault) => Err(fault),

@@ -2,4 +2,5 @@ use Rattle.arti_store.proofs.Views.{other_edit}
 use Rattle.arti_store.proofs.edits.do_one.Goals as goal
 
 pub returns-clause-done : goal.returns-clause-done
-returns-clause-done c = other_edit c.args.moment c.args.user.now c.args.edit c.args.rows.now c.in_default.not-Folder c.in_default.not-File c.in_default.not-Downloaded
+returns-clause-done c =
+    other_edit c.args.moment c.args.user.now c.args.edit.now c.args.rows.now c.in_default.not-Folder c.in_default.not-File c.in_default.not-Downloaded
