@@ -1,6 +1,6 @@
 use Rattle.arti_store.proofs.Views.{other_edit}
 use Rattle.arti_store.proofs.edits.do_one.Goals as goal
 
-pub returns-clause-done : goal.returns-clause-done
-returns-clause-done c =
+pub returns-in_default-clause-done : goal.returns-in_default-clause-done
+returns-in_default-clause-done c =
     other_edit c.args.moment c.args.user.now c.args.edit.now c.args.rows.now c.in_default.not-Folder c.in_default.not-File c.in_default.not-Downloaded
