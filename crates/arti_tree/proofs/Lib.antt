@@ -26,3 +26,4 @@ mod Moving
 mod Shifting
 mod Finding
 mod Renaming
+mod Piecing

@@ -9,3 +9,5 @@ pub mod Chains
 pub mod Searched
 pub mod Renames
 pub mod Shifts
+pub mod Held
+pub mod Pieces

@@ -1,6 +1,5 @@
 // Lists of ids that ascend, each id once.
 ghost use Rattle.std.specs.Prelude.{[], ◌∷◌, ◌++◌, ◌≡◌, ◌≢◌, ℕ, ◌+◌, ◌-◌, ◌<◌, ◌≤◌, ◌^◌, ◌⊎◌, length, slice_index, vec_len, vec_capacity, IfOk, IfErr, OnOk, OnErr};
-ghost use Rattle.std.specs.List.{insert};
 ghost use Rattle.arti_tree.specs.Ids.{AscendFrom, IsGap, Lacks, with_id, without_id};
 ghost use Rattle.arti_tree.specs.Shifts.{AreNew, with_ids, without_ids};
 
@@ -78,15 +77,6 @@ pub(crate) fn drop_id(ids: &mut Vec<u32>, id: u32)
     if let Ok(place) = place_in(ids, id) {
         ids.remove(place);
     }
-}
-
-/// An id at a place, where there is room for one.
-pub(crate) fn insert_ready(ids: &mut Vec<u32>, place: usize, id: u32)
-    requires within { place ≤ vec_len ids.old }
-    requires room { vec_len ids.old < vec_capacity ids.old }
-    ensures { ids.new.items ≡ insert ids.old.items place id }
-{
-    let _ = ids.insert(place, id);
 }
 
 /// An id at the end, where there is room for one.

@@ -1,10 +1,12 @@
 //! The tree of items: which keys are there, in which folder each lies, and its place in the default order.
 #![tactic(auto)]
 
+mod blocks;
 mod fault;
 mod ids;
 mod keys;
 mod lists;
+mod pieces;
 mod rekeying;
 mod repos;
 mod searching;

@@ -5,6 +5,7 @@ ghost use Rattle.arti_rows.specs.Key.{key_cmp, path_of, name_of};
 ghost use Rattle.arti_tree.specs.Slots.{at, key_at};
 ghost use Rattle.arti_tree.specs.Searched.{key, AllLive, RisingAt};
 
+use crate::blocks::Blocks;
 use crate::slot::{Slot, slot_of};
 use arti_rows::ItemKey;
 use std::cmp::Ordering;
@@ -12,23 +13,23 @@ use std::cmp::Ordering;
 /// The place of a key among the ids in the default order, or the place where it would stand.
 pub(crate) fn place_of(
     slots: &[Option<Slot>],
-    order: &[u32],
+    order: &Blocks,
     repo: &str,
     path: &str,
     name: &str,
 ) -> Result<usize, usize>
-    requires live { AllLive slots.now order.now }
-    requires rising { RisingAt slots.now order.now }
-    ensures found { IfOk result (λ i. (i < length order.now) × (key_cmp (key_at slots.now (slice_index order.now i)) (key repo.now path.now name.now) ≡ Equal)) }
-    ensures within { IfErr result (λ i. i ≤ length order.now) }
-    ensures before { IfErr result (λ i. (k : ℕ) → k < i → key_cmp (key_at slots.now (slice_index order.now k)) (key repo.now path.now name.now) ≡ Less) }
-    ensures behind { IfErr result (λ i. (k : ℕ) → i ≤ k → k < length order.now → key_cmp (key_at slots.now (slice_index order.now k)) (key repo.now path.now name.now) ≡ Greater) }
+    requires live { AllLive slots.now order.now.items }
+    requires rising { RisingAt slots.now order.now.items }
+    ensures found { IfOk result (λ i. (i < length order.now.items) × (key_cmp (key_at slots.now (slice_index order.now.items i)) (key repo.now path.now name.now) ≡ Equal)) }
+    ensures within { IfErr result (λ i. i ≤ length order.now.items) }
+    ensures before { IfErr result (λ i. (k : ℕ) → k < i → key_cmp (key_at slots.now (slice_index order.now.items k)) (key repo.now path.now name.now) ≡ Less) }
+    ensures behind { IfErr result (λ i. (k : ℕ) → i ≤ k → k < length order.now.items → key_cmp (key_at slots.now (slice_index order.now.items k)) (key repo.now path.now name.now) ≡ Greater) }
 {
     let mut low = 0usize;
     let mut high = order.len();
     'places: while low < high {
         let middle = low + (high - low) / 2;
-        match compared(slots, order[middle], repo, path, name) {
+        match compared(slots, order.get(middle), repo, path, name) {
             Ordering::Less => low = middle + 1,
             Ordering::Greater => high = middle,
             Ordering::Equal => return Ok(middle),

@@ -4,8 +4,9 @@ ghost use Rattle.arti_tree.specs.Renames.{rekeyed};
 ghost use Rattle.arti_tree.specs.Rows.{with_row, without_row};
 ghost use Rattle.arti_tree.specs.Slots.{at, live, row_with};
 
+use crate::blocks::Blocks;
 use arti_rows::ItemKey;
-use std::alloc::AllocError;
+use std::alloc::{AllocError, Global};
 
 /// A row, without its id.
 #[derive(Drop)]
@@ -71,17 +72,18 @@ pub(crate) fn set_key(slots: &mut Vec<Option<Slot>>, id: u32, key: ItemKey)
 pub(crate) fn make_room(
     slots: &mut Vec<Option<Slot>>,
     all: &mut Vec<u32>,
-    order: &mut Vec<u32>,
+    order: &mut Blocks,
+    alloc: Global,
 ) -> Result<(), AllocError>
     ensures slots { slots.new.items ≡ slots.old.items }
     ensures all { all.new.items ≡ all.old.items }
     ensures order { order.new.items ≡ order.old.items }
     ensures slots_room { OnOk result (vec_len slots.new < vec_capacity slots.new) }
     ensures all_room { OnOk result (vec_len all.new < vec_capacity all.new) }
-    ensures order_room { OnOk result (vec_len order.new < vec_capacity order.new) }
+    ensures order_room { OnOk result (0 < order.new.room) }
 {
     slots.reserve(1)?;
     all.reserve(1)?;
-    order.reserve(1)?;
+    order.make_room(alloc, 1)?;
     Ok(())
 }

@@ -11,7 +11,8 @@ ghost use Rattle.arti_tree.specs.Chains.{CanAdd, Pushes};
 ghost use Rattle.arti_tree.specs.Renames.{AreWithin, is_within, key_for, moved_row, renamed, rename_fault, StayKeys};
 
 use crate::TreeFault;
-use crate::ids::{add_ready, drop_id, free_id, insert_ready, push_ready};
+use crate::blocks::Blocks;
+use crate::ids::{add_ready, drop_id, free_id, push_ready};
 use crate::keys::moved_key;
 use crate::lists::{Children, enter_both, leave_folder, listed, shift_both};
 use crate::rekeying::rekey_all;
@@ -30,7 +31,7 @@ pub struct Tree {
     slots: Vec<Option<Slot>>,
     all: Vec<u32>,
     // By the default order of their keys.
-    order: Vec<u32>,
+    order: Blocks,
     // The rows that lie in each folder, by its id.
     children: Children,
     repos: Repos,
@@ -60,7 +61,7 @@ impl Tree {
         Ok(Tree {
             slots: Vec::new(alloc),
             all: Vec::new(alloc),
-            order: Vec::new(alloc),
+            order: Blocks::new(alloc)?,
             children: BTreeMap::new(alloc),
             repos: BTreeMap::new(alloc),
         })
@@ -151,7 +152,7 @@ impl Tree {
         ensures { result ≡ option_map (λ r. (r.id, rank_of self.now r.key)) (row_at self.now (key repo.now path.now name.now)) }
     {
         match place_of(&self.slots, &self.order, repo, path, name) {
-            Ok(place) => Some((self.order[place], place as u32)),
+            Ok(place) => Some((self.order.get(place), place as u32)),
             Err(_) => None,
         }
     }
@@ -201,7 +202,7 @@ impl Tree {
             unreachable!();
         };
         let id = free_id(&self.all);
-        make_room(&mut self.slots, &mut self.all, &mut self.order)?;
+        make_room(&mut self.slots, &mut self.all, &mut self.order, alloc)?;
         enter_both(
             &mut self.children,
             &mut self.repos,
@@ -210,7 +211,7 @@ impl Tree {
             key.repo.as_str(),
             id,
         )?;
-        insert_ready(&mut self.order, place, id);
+        self.order.insert(place, id);
         add_ready(&mut self.all, id);
         fill(&mut self.slots, id, Slot { key, is_file });
         Ok(id)
@@ -373,6 +374,8 @@ impl Tree {
         let mut keys = Vec::new(alloc);
         self.find_within(alloc, id, from, to, &mut ids, &mut keys)?;
         let folders = (self.folder(from), self.folder(to));
+        // Before anything changes, so that nothing behind the shift can fail.
+        self.order.make_room(alloc, keys.len())?;
         shift_both(
             &mut self.children,
             &mut self.repos,

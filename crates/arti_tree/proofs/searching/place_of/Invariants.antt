@@ -8,9 +8,9 @@ use Rattle.arti_tree.proofs.searching.place_of.Given as goal
 abbrev pub invariant-places : goal.invariant-places
 invariant-places l = record {
   range : l.low ≤ l.high;
-  within : l.high ≤ length l.order;
-  before : (k : ℕ) → k < l.low → key_cmp (key_at l.slots (slice_index l.order k)) (key l.repo l.path l.name) ≡ Less;
-  behind : (k : ℕ) → l.high ≤ k → k < length l.order → key_cmp (key_at l.slots (slice_index l.order k)) (key l.repo l.path l.name) ≡ Greater;
+  within : l.high ≤ length l.order.items;
+  before : (k : ℕ) → k < l.low → key_cmp (key_at l.slots (slice_index l.order.items k)) (key l.repo l.path l.name) ≡ Less;
+  behind : (k : ℕ) → l.high ≤ k → k < length l.order.items → key_cmp (key_at l.slots (slice_index l.order.items k)) (key l.repo l.path l.name) ≡ Greater;
 }
 
 abbrev pub decreases-places : goal.decreases-places

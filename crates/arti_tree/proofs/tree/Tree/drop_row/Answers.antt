@@ -1,4 +1,4 @@
-use Rattle.std.proofs.Common.{◌≡◌, ℕ, ◌<◌, ◌≤◌, List, length, get_or, Option, Some, None, sym, ap, ◌∙◌, subst, cond, arith, rules, Less, Equal, Greater}
+use Rattle.std.proofs.Common.{◌≡◌, ℕ, ◌<◌, ◌≤◌, List, length, get_or, Option, Some, None, refl, sym, ap, ◌∙◌, subst, cond, arith, rules, Less, Equal, Greater}
 use Rattle.std.specs.Prelude.{IsSome, nat_eq}
 use Rattle.std.specs.List.{find}
 use Rattle.std.specs.Cmp.Lexicographic.{pointwise}
@@ -27,12 +27,12 @@ unreachable-requires c =
 pub place_of-requires-clause-live : goal.place_of-requires-clause-live
 place_of-requires-clause-live c =
     let t = c.self.inside in
-    to_both AllLive c.deref-2.result.now t.slots.items c.deref-3.result.now t.order.items c.deref-2.ensures.value c.deref-3.ensures.value (all_live t.slots.items t.order.items c.self.invariant.tree c.self.invariant.order_is)
+    to_both AllLive c.deref-2.result.now t.slots.items t.order.items t.order.items c.deref-2.ensures.value refl (all_live t.slots.items t.order.items c.self.invariant.tree c.self.invariant.order_is)
 
 pub place_of-requires-clause-rising : goal.place_of-requires-clause-rising
 place_of-requires-clause-rising c =
     let t = c.self.inside in
-    to_both RisingAt c.deref-2.result.now t.slots.items c.deref-3.result.now t.order.items c.deref-2.ensures.value c.deref-3.ensures.value (rising_there t.slots.items t.order.items c.self.invariant.tree c.self.invariant.order_is)
+    to_both RisingAt c.deref-2.result.now t.slots.items t.order.items t.order.items c.deref-2.ensures.value refl (rising_there t.slots.items t.order.items c.self.invariant.tree c.self.invariant.order_is)
 
 none_some : {o : Option Row} {x : Row} → o ≡ None → o ≡ Some x → ⊥
 none_some {o} {x} n s = let e : None ≡ Some x = sym n ∙ s in cc
@@ -47,7 +47,7 @@ unreachable-requires-in_default-place_of c =
     let there : at t.slots.items c.args.id ≡ Some s = ap (λ (l : List (Option Slot)). at l c.args.id) (sym c.deref.ensures.value) ∙ sym c.in-Some.ensures in
     let i : ℕ = c.in_default-place_of.field-0 in
     let gap = from_both (λ (l : List (Option Slot)) (o : List ℕ). (i ≤ length o) × ((j : ℕ) → j < i → key_cmp (key_at l (get_or o j 0)) k ≡ Less) × ((j : ℕ) → i ≤ j → j < length o → key_cmp (key_at l (get_or o j 0)) k ≡ Greater))
-    c.deref-2.result.now t.slots.items c.deref-3.result.now t.order.items c.deref-2.ensures.value c.deref-3.ensures.value (c.in_default-place_of.ensures.within, c.in_default-place_of.ensures.before, c.in_default-place_of.ensures.behind) in
+    c.deref-2.result.now t.slots.items t.order.items t.order.items c.deref-2.ensures.value refl (c.in_default-place_of.ensures.within, c.in_default-place_of.ensures.before, c.in_default-place_of.ensures.behind) in
     none_some (missing t.slots.items t.order.items inv.tree inv.order_is k i gap.0 gap.1 gap.2) (ap (row_at (live 0 t.slots.items)) parts ∙ inv.tree.differ (row_with c.args.id s) (live_in t.slots.items c.args.id s there))
 
 pub leave-requires : goal.leave-requires
@@ -81,7 +81,7 @@ invariant_of-self c =
     let folder : c.folder_under-folder.result ≡ folder_id rows s.key = if_some_at (row_of c.args.self.now id) (row_with id s) (λ r. c.folder_under-folder.result ≡ folder_id c.args.self.now r.key) row c.folder_under-folder.ensures ∙ ap (λ (l : List Row). folder_id l s.key) (sym c.self.view_is) in
     let empty : find (lies_in s.key) rows ≡ None = ap (λ (l : List Row). find (lies_in s.key) l) c.self.view_is ∙ if_some_at (row_of c.args.self.now id) (row_with id s) (λ r. find (lies_in r.key) c.args.self.now ≡ None) row c.requires.empty in
     let i : ℕ = c.in-Ok.place in
-    let found = from_both (λ (l : List (Option Slot)) (o : List ℕ). (i < length o) × (key_cmp (key_at l (get_or o i 0)) k ≡ Equal)) c.deref-2.result.now t.slots.items c.deref-3.result.now t.order.items c.deref-2.ensures.value c.deref-3.ensures.value c.in-Ok.ensures.found in
+    let found = from_both (λ (l : List (Option Slot)) (o : List ℕ). (i < length o) × (key_cmp (key_at l (get_or o i 0)) k ≡ Equal)) c.deref-2.result.now t.slots.items t.order.items t.order.items c.deref-2.ensures.value refl c.in-Ok.ensures.found in
     let at_place : row_there t.slots.items t.order.items inv.tree inv.order_is i ≡ row_with id s =
     some_rows (row_there t.slots.items t.order.items inv.tree inv.order_is i) (row_with id s) (sym (found_there t.slots.items t.order.items inv.tree inv.order_is k i found.0 found.1) ∙ ap (row_at rows) parts ∙ inv.tree.differ (row_with id s) is_live) in
     let o = inv.order_is in

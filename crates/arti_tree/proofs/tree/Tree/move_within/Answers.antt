@@ -9,6 +9,7 @@ use Rattle.arti_tree.proofs.Along.{to_both}
 use Rattle.arti_tree.proofs.Adding.{children_ascend, repo_ascends, kept_same}
 use Rattle.arti_tree.proofs.Renaming.{absent_list, absent_repo, can_all, rows_moved, kept_after}
 use Rattle.arti_tree.specs.Children.{list_at}
+use Rattle.arti_tree.specs.Kept.{Ordered}
 use Rattle.arti_tree.proofs.tree.Tree.move_within.Goals as goal
 
 pub shift_both-requires-clause-ascend : goal.shift_both-requires-clause-ascend
@@ -37,7 +38,17 @@ shift_both-requires-clause-repos_lack c =
 pub invariant_of-self : goal.invariant_of-self
 invariant_of-self c =
     let t = c.self.inside in
-    kept_same t.slots.items t.all.items t.order.items (list_at t.children) (list_of t.repos) c.self.invariant t.slots.items t.all.items t.order.items (list_at c.shift_both.new.children) (list_of c.shift_both.new.repos) refl refl refl
+    kept_same t.slots.items t.all.items t.order.items (list_at t.children) (list_of t.repos) c.self.invariant t.slots.items t.all.items c.make_room.new.self.items (list_at t.children) (list_of t.repos) refl refl c.make_room.ensures.items (λ i. refl) (λ q. refl)
+
+pub rekey_all-requires-clause-order : goal.rekey_all-requires-clause-order
+rekey_all-requires-clause-order c =
+    let t = c.self.inside in
+    subst (λ (o : List ℕ). Ordered (live 0 t.slots.items) o) (sym c.make_room.ensures.items) c.self.invariant.order_is
+
+pub invariant_of-self-in_err-shift_both : goal.invariant_of-self-in_err-shift_both
+invariant_of-self-in_err-shift_both c =
+    let t = c.self.inside in
+    kept_same t.slots.items t.all.items t.order.items (list_at t.children) (list_of t.repos) c.self.invariant t.slots.items t.all.items c.make_room.new.self.items (list_at c.shift_both.new.children) (list_of c.shift_both.new.repos) refl refl c.make_room.ensures.items
     (λ i. c.in_err-shift_both.ensures.folders_stay i) c.in_err-shift_both.ensures.repos_stay
 
 pub rekey_all-requires-clause-can : goal.rekey_all-requires-clause-can
