@@ -57,10 +57,10 @@ module _ (one : OneStore) (limits : Limits) (start : ℕ) (input : List ℕ) (ol
   pub then_talking : IsSound old → IsSound mid → IsReady limits v → HoldsStore mid v → AfterSync old mid (Reopening old limits)
       → Passes mid new (AtMoment limits 0 mid.told (Recovers limits limits.requests (moments_from (pos start) limits.requests) opened input))
       → AfterSync old new (AtAnyMoment limits start old.files input old.told)
-  then_talking first sound ready holds (inl p) talk =
+  then_talking begins sound ready holds (inl p) talk =
       inl (since_then old mid new _ (since_map old mid _ _ (reopened limits start old.files input old.told old refl refl) p) (passes_map mid new _ _ talking talk))
-  then_talking first sound ready holds (inr reads) talk =
-      inl (since_here old mid new _ first reads sound
+  then_talking begins sound ready holds (inr reads) talk =
+      inl (since_here old mid new _ begins reads sound
       (λ c left. talking c mid.told (record {
         told = [];
         told_is = sym (append-nil (mid.told 0));
@@ -142,6 +142,6 @@ module _ (one : OneStore) (limits : Limits) (start : ℕ) (input : List ℕ) (ol
   pub crash_so : IsSound old → IsSound mid → IsReady limits v → HoldsStore mid v → AfterSync old mid (Reopening old limits)
       → Passes mid new (AtMoment limits 0 mid.told (Recovers limits limits.requests moments first input))
       → AfterSync old new (AtAnyMoment limits start old.files input old.told)
-  crash_so first sound ready holds time talk =
-      then_talking one limits start input old mid new v was contents quiet first sound ready holds time
+  crash_so begins sound ready holds time talk =
+      then_talking one limits start input old mid new v was contents quiet begins sound ready holds time
       (subst (λ (m : List ℤ). Passes mid new (AtMoment limits 0 mid.told (Recovers limits limits.requests m first input))) clock talk)
