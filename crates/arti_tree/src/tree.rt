@@ -3,6 +3,7 @@ ghost use Rattle.std.specs.Prelude.{◌≡◌, ◌≢◌, ◌-◌, ◌&&◌, dro
 ghost use Rattle.std.specs.Option.{option_map_or, is_none, is_some};
 ghost use Rattle.std.specs.List.{filter, find};
 ghost use Rattle.arti_tree.specs.Rows.{Row, ids, row_of, row_at, lies_in, is_of, rank_of, folder_id, with_row, without_row, may_go, HasFolder, IsFolder, IsTree};
+ghost use Rattle.arti_tree.specs.Ids.{AscendFrom};
 ghost use Rattle.arti_tree.specs.Slots.{row_with};
 ghost use Rattle.arti_tree.specs.Searched.{key};
 ghost use Rattle.arti_tree.specs.Adds.{is_end, is_missing, is_file_at, keys_added, put_fault, Adds};
@@ -118,7 +119,8 @@ impl Tree {
 
     /// The rows that lie in a folder, with nothing between.
     pub fn children(&self, key: &ItemKey) -> &[u32]
-        ensures { result.now ≡ ids (filter (lies_in key.now) self.now) }
+        ensures rows { result.now ≡ ids (filter (lies_in key.now) self.now) }
+        ensures ascend { AscendFrom 0 result.now }
     {
         match self.get(key) {
             Some(id) => listed(&self.children, id),
@@ -128,14 +130,16 @@ impl Tree {
 
     /// All rows.
     pub fn all(&self) -> &[u32]
-        ensures { result.now ≡ ids self.now }
+        ensures rows { result.now ≡ ids self.now }
+        ensures ascend { AscendFrom 0 result.now }
     {
         self.all.as_slice()
     }
 
     /// The rows of a repository.
     pub fn in_repo(&self, repo: &str) -> &[u32]
-        ensures { result.now ≡ ids (filter (is_of repo.now) self.now) }
+        ensures rows { result.now ≡ ids (filter (is_of repo.now) self.now) }
+        ensures ascend { AscendFrom 0 result.now }
     {
         ids_of(&self.repos, repo)
     }

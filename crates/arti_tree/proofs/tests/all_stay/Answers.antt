@@ -14,7 +14,7 @@ loop-id-preserved c =
     let list : List ℕ = c.all-id-items.result.now in
     let ok : c.in_ok-stays.field-0 ≡ true = search rules in
     below_more _ _ c.loop-id.invariant (λ r at rest e.
-    let here : row_of rows (get_or list i 0) ≡ Some r = ap (λ (l : List ℕ). row_of rows (get_or l i 0)) c.all-id-items.ensures ∙ at in
+    let here : row_of rows (get_or list i 0) ≡ Some r = ap (λ (l : List ℕ). row_of rows (get_or l i 0)) c.all-id-items.ensures.rows ∙ at in
     let key_is : c.in-Some.key.now ≡ r.key = key_seen c.in-Some.key.now (row_of rows (get_or list i 0)) r c.in-Some.ensures here in
     c.in_ok-stays.ensures ok rest (ap whole_of key_is ∙ e))
 
@@ -23,4 +23,4 @@ returns c = λ _ r live rest e.
     let rows = c.args.tree.now in
     let past : length c.all-id-items.result.now ≤ c.loop-id.id-index = search rules in
     let p = place_of_id (ids rows) r.id (has_id rows r.id r live) in
-    c.loop-id.invariant p.0 (omega (arith, p.1, ap (λ (l : List ℕ). length l) c.all-id-items.ensures)) r (ap (row_of rows) p.2 ∙ live) rest e
+    c.loop-id.invariant p.0 (omega (arith, p.1, ap (λ (l : List ℕ). length l) c.all-id-items.ensures.rows)) r (ap (row_of rows) p.2 ∙ live) rest e

@@ -37,7 +37,7 @@ pub unreachable-requires : goal.unreachable-requires
 unreachable-requires c =
     let rows = c.args.self.now in
     let list : List ℕ = c.children-child-items.result.now in
-    let m = member rows (lies_in c.args.folder.now) list c.loop-child.child-index c.rules.ensures.ascend c.children-child-items.ensures c.loop-child-test.true in
+    let m = member rows (lies_in c.args.folder.now) list c.loop-child.child-index c.rules.ensures.ascend c.children-child-items.ensures.rows c.loop-child-test.true in
     none_seen (row_of rows (get_or list c.loop-child.child-index 0)) m.row c.in_default.ensures m.of
 
 pub moved_key-requires-clause-repo : goal.moved_key-requires-clause-repo
@@ -45,7 +45,7 @@ moved_key-requires-clause-repo c =
     let rows = c.args.self.now in
     let from : Key = c.args.from.now in
     let list : List ℕ = c.children-child-items.result.now in
-    let m = member rows (lies_in c.args.folder.now) list c.loop-child.child-index c.rules.ensures.ascend c.children-child-items.ensures c.loop-child-test.true in
+    let m = member rows (lies_in c.args.folder.now) list c.loop-child.child-index c.rules.ensures.ascend c.children-child-items.ensures.rows c.loop-child-test.true in
     let item : c.in-Some.item.now ≡ m.row.key = key_seen c.in-Some.item.now (row_of rows (get_or list c.loop-child.child-index 0)) m.row c.in-Some.ensures m.of in
     let within : is_within from m.row.key ≡ true = lies_within rows from c.args.folder.now c.rules.ensures c.rules-2.ensures c.requires.within m.row m.live m.passes in
     ap (λ (k : Key). k.repo) item ∙ (within_is from m.row.key (c.rules.ensures.keys m.row m.live) within).repo
@@ -56,7 +56,7 @@ moved_key-requires-clause-good c =
     let from : Key = c.args.from.now in
     let to : Key = c.args.to.now in
     let list : List ℕ = c.children-child-items.result.now in
-    let m = member rows (lies_in c.args.folder.now) list c.loop-child.child-index c.rules.ensures.ascend c.children-child-items.ensures c.loop-child-test.true in
+    let m = member rows (lies_in c.args.folder.now) list c.loop-child.child-index c.rules.ensures.ascend c.children-child-items.ensures.rows c.loop-child-test.true in
     let item : c.in-Some.item.now ≡ m.row.key = key_seen c.in-Some.item.now (row_of rows (get_or list c.loop-child.child-index 0)) m.row c.in-Some.ensures m.of in
     subst (λ (k : Key). is_within from k ≡ true → key_fault to.repo (moved_whole from to k) ≡ None) (sym item) (λ e. c.requires.keys m.row m.live e)
 
@@ -66,7 +66,7 @@ unreachable-requires-in_default-2 c =
     let from : Key = c.args.from.now in
     let to : Key = c.args.to.now in
     let list : List ℕ = c.children-child-items.result.now in
-    let m = member rows (lies_in c.args.folder.now) list c.loop-child.child-index c.rules.ensures.ascend c.children-child-items.ensures c.loop-child-test.true in
+    let m = member rows (lies_in c.args.folder.now) list c.loop-child.child-index c.rules.ensures.ascend c.children-child-items.ensures.rows c.loop-child-test.true in
     let item : c.in-Some.item.now ≡ m.row.key = key_seen c.in-Some.item.now (row_of rows (get_or list c.loop-child.child-index 0)) m.row c.in-Some.ensures m.of in
     let within : is_within from m.row.key ≡ true = lies_within rows from c.args.folder.now c.rules.ensures c.rules-2.ensures c.requires.within m.row m.live m.passes in
     let out : None ≡ cond (is_within from c.in-Some.item.now) (Some (moved from to c.in-Some.item.now)) None = search rules in
@@ -82,13 +82,13 @@ loop-child-preserved c =
     let i = c.loop-child.child-index in
     let id : ℕ = get_or list i 0 in
     let inv = c.loop-child.invariant in
-    let m = member rows (lies_in c.args.folder.now) list i c.rules.ensures.ascend c.children-child-items.ensures c.loop-child-test.true in
+    let m = member rows (lies_in c.args.folder.now) list i c.rules.ensures.ascend c.children-child-items.ensures.rows c.loop-child-test.true in
     let item : c.in-Some.item.now ≡ m.row.key = key_seen c.in-Some.item.now (row_of rows id) m.row c.in-Some.ensures m.of in
     let within : is_within from m.row.key ≡ true = lies_within rows from c.args.folder.now c.rules.ensures c.rules-2.ensures c.requires.within m.row m.live m.passes in
     let out : Some c.in-Some-2.key ≡ cond (is_within from c.in-Some.item.now) (Some (moved from to c.in-Some.item.now)) None = search rules in
     let key_is : c.in-Some-2.key ≡ moved from to c.in-Some.item.now = some_moved (is_within from c.in-Some.item.now) c.in-Some-2.key (moved from to c.in-Some.item.now) (ap (is_within from) item ∙ within) out in
     let k_is : c.in-Some-2.key ≡ key_for rows from to id = key_is ∙ ap (moved from to) item ∙ sym (ap (λ o. option_map_or (λ (r : Row). moved from to r.key) o no_key) m.of) in
-    let next : drop i inside ≡ id ∷ drop (i + 1) inside = sym (ap (λ (l : List ℕ). drop i l) c.children-child-items.ensures) ∙ drop_next list i c.loop-child-test.true ∙ ap (λ (l : List ℕ). id ∷ drop (i + 1) l) c.children-child-items.ensures in
+    let next : drop i inside ≡ id ∷ drop (i + 1) inside = sym (ap (λ (l : List ℕ). drop i l) c.children-child-items.ensures.rows) ∙ drop_next list i c.loop-child-test.true ∙ ap (λ (l : List ℕ). id ∷ drop (i + 1) l) c.children-child-items.ensures.rows in
     let found : c.push.new.self.items ≡ c.loop-child.found.items ++ id ∷ [] = search rules in
     let keys : c.push-in-loop-child.new.self.items ≡ c.loop-child.keys.items ++ c.in-Some-2.key ∷ [] = search rules in
     record {
