@@ -64,7 +64,7 @@ bench_program() {
         mkdir -p "$bench/out"
         rm -f "$kept" "$kept.built"
         # It is run too. What it says then doesn't matter.
-        (cd "$copy/crates/$crate" && timeout -k 10 10800 rt run) > "$kept.log" 2>&1 < /dev/null || true
+        (cd "$copy/crates/$crate" && timeout --foreground -k 10 10800 rt run) > "$kept.log" 2>&1 < /dev/null || true
         if ! cp "$copy/crates/$crate/out/$crate" "$kept"; then
             cat "$kept.log" >&2
             return 1

@@ -35,7 +35,7 @@ BENCH_RUN=$(printf '%s\t%s\t%s\t%s\t%s' "$(date -u +%FT%TZ)" "$commit" "$(rt ver
 # The tree's bench takes numbers of files, and its lines have a form of their own.
 tree() {
     # shellcheck disable=SC2086
-    timeout -k 10 "$limit" "$bench/tree/run.sh" ${quick:+1000 10000} | while IFS= read -r text; do
+    timeout --foreground -k 10 "$limit" "$bench/tree/run.sh" ${quick:+1000 10000} | while IFS= read -r text; do
         echo "tree     $text"
         printf '%s\ttree\t%s\n' "$BENCH_RUN" "$text" >> "$BENCH_RESULTS"
     done
@@ -47,7 +47,7 @@ for name in "${names[@]}"; do
     if [ "$name" = tree ]; then
         tree || failed+=("$name")
     else
-        timeout -k 10 "$limit" "$bench/$name/run.sh" ${quick:+"$quick"} || failed+=("$name")
+        timeout --foreground -k 10 "$limit" "$bench/$name/run.sh" ${quick:+"$quick"} || failed+=("$name")
     fi
 done
 echo "benches: $((${#names[@]} - ${#failed[@]})) as they should be, ${#failed[@]} past a bound or failed${failed[*]:+ (${failed[*]})}"
