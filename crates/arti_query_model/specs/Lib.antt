@@ -1,0 +1,9 @@
+pub mod Outcome
+pub mod Table
+pub mod Paths
+pub mod Values
+pub mod Criteria
+pub mod World
+pub mod Cases
+pub mod Typing
+pub mod Typed
