@@ -2,11 +2,11 @@
 use Rattle.std.specs.Prelude.{◌≡◌, ℕ, ◌==◌, ◌||◌, ◌&&◌, Bool, true, false, if◌then◌else◌, map, drop, List, [], ◌∷◌, ◌++◌, length, Option, Some, None, IsSome}
 use Rattle.std.specs.Option.{option_map_or, is_some}
 use Rattle.std.specs.List.{list_any}
-use Rattle.arti_rows.specs.Key.{Key, key_of, whole_of, folders_above}
+use Rattle.arti_rows.specs.Key.{Key, key_of, whole_of, folders_above, same_key}
 use Rattle.arti_rows.specs.Names.{key_fault}
 use Rattle.arti_tree.specs.declared.fault.TreeFault.{TreeFault}
 use Rattle.arti_tree.specs.declared.fault.TreeFault.TheVariants.{Taken}
-use Rattle.arti_tree.specs.Rows.{Row, row_of, row_at, same_key, IsLive}
+use Rattle.arti_tree.specs.Rows.{Row, row_of, row_at, IsLive}
 use Rattle.arti_tree.specs.Slots.{no_key}
 
 -- a key is this one, or lies beneath it at whatever depth

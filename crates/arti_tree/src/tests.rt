@@ -1,9 +1,9 @@
 // A tree against plain rows.
 ghost use Rattle.std.specs.Prelude.{◌≡◌, ◌++◌, List, ℕ, None, true, false, IfOk, IfSome};
-ghost use Rattle.arti_rows.specs.Key.{whole_of};
+ghost use Rattle.arti_rows.specs.Key.{whole_of, same_key};
 ghost use Rattle.arti_rows.specs.Names.{key_fault};
 ghost use Rattle.std.specs.List.{list_any};
-ghost use Rattle.arti_tree.specs.Rows.{Row, row_of, same_key, HasFolder, IsFolder, IsLive};
+ghost use Rattle.arti_tree.specs.Rows.{Row, row_of, HasFolder, IsFolder, IsLive};
 ghost use Rattle.arti_tree.specs.Renames.{is_within, StayKeys};
 
 use super::*;

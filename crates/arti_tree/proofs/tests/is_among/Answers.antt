@@ -1,8 +1,7 @@
 use Rattle.std.proofs.Common.{◌≤◌, length, sym, ap, ◌∙◌, arith, rules}
 use Rattle.std.proofs.lemmas.List.{get_or_default}
 use Rattle.std.proofs.lemmas.List.Folds.{list_any_none}
-use Rattle.arti_rows.specs.Key.{Key}
-use Rattle.arti_tree.specs.Rows.{same_key}
+use Rattle.arti_rows.specs.Key.{Key, same_key}
 use Rattle.arti_tree.proofs.tests.is_among.Goals as goal
 
 pub returns : goal.returns

@@ -1,5 +1,5 @@
 use Rattle.std.proofs.Common.{◌≡◌, ℕ, ◌<◌, get_or, false}
-use Rattle.arti_tree.specs.Rows.{same_key}
+use Rattle.arti_rows.specs.Key.{same_key}
 use Rattle.arti_tree.proofs.tests.is_among.Given as goal
 
 abbrev pub invariant-loop-one : goal.invariant-loop-one
