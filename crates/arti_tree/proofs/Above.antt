@@ -84,6 +84,14 @@ good_by : (b : Bool) (whole : List ℕ) (fault : KeyFault) → cond b (path_faul
 good_by true whole fault e = e
 good_by false whole fault e = cc
 
+whole_by : (b : Bool) (k : Key) → pointwise nat_eq k.path root_path ≡ b → not b ≡ true → whole_of k ≡ k.path ++ 47 ∷ k.name
+whole_by true k e f = cc
+whole_by false k e f = ap (λ c. cond c k.name (k.path ++ 47 ∷ k.name)) e
+
+-- the whole of what lies in a folder
+pub whole_in : (k : Key) → has_folder k ≡ true → whole_of k ≡ k.path ++ 47 ∷ k.name
+whole_in k has = whole_by (pointwise nat_eq k.path root_path) k refl has
+
 module _ (k : Key) (is : IsKey k) where
   pub good : path_fault (whole_of k) ≡ None
   good = good_by (is_repo_key k.repo) (whole_of k) BadName is.good
@@ -91,13 +99,9 @@ module _ (k : Key) (is : IsKey k) where
   pub plain : HasNone k.name
   plain = subst HasNone (ap (λ (x : Key). x.name) is.cut) (plain_name (whole_of k))
 
-  whole_by : (b : Bool) → pointwise nat_eq k.path root_path ≡ b → not b ≡ true → whole_of k ≡ k.path ++ 47 ∷ k.name
-  whole_by true e f = cc
-  whole_by false e f = ap (λ c. cond c k.name (k.path ++ 47 ∷ k.name)) e
-
   module _ (has : has_folder k ≡ true) where
     pub joined : whole_of k ≡ k.path ++ 47 ∷ k.name
-    joined = whole_by (pointwise nat_eq k.path root_path) refl has
+    joined = whole_in k has
 
     -- its folder's path and name joined is its path
     pub folder_whole : whole_of (folder_of k) ≡ k.path

@@ -24,4 +24,5 @@ mod Moving
 mod Shifting
 mod Finding
 mod Renaming
+mod Staying
 mod Piecing

@@ -93,4 +93,4 @@ returns-in-None c =
     let ne : c.args.item.now ≡ c.args.from.now → ⊥ = search rules in
     let item_path : c.as_str.result.now ≡ c.args.item.now.path = search rules in
     not_beneath c.args.from.now c.args.to.now c.args.item.now c.rules-2.ensures c.rules.ensures c.requires.repo ne
-    (λ rest e. c.in-None.ensures.none refl rest (item_path ∙ e ∙ ap (λ (l : List ℕ). l ++ rest) (sym c.requires.whole)))
+    (λ rest e. c.in-None.ensures.none refl rest (item_path ∙ e))
