@@ -2,7 +2,7 @@
 use Rattle.std.proofs.Common.{◌≡◌, ◌≢◌, ℕ, ◌+◌, ◌<◌, ◌≤◌, ◌⊎◌, ⊎_elim, inl, inr, zero, suc, Bool, true, false, cond, eqb, List, [], ◌∷◌, ◌++◌, length, get_or, take, drop, Option, Some, None, refl, sym, ap, ◌∙◌, subst, arith, length-append}
 use Rattle.std.specs.Prelude.{◌==◌, map, not, nat_eq, MatchBool}
 use Rattle.std.specs.Cmp.Lexicographic.{pointwise}
-use Rattle.std.proofs.lemmas.Bool.{eqb-true, eqb-false}
+use Rattle.std.proofs.lemmas.Bool.{eqb-true, eqb-false, ne_eqb, cases_Bool}
 use Rattle.std.proofs.lemmas.List.{map-append, get_or-drop, length-drop}
 use Rattle.std.proofs.Math.Seq.{split_at}
 use Rattle.arti_rows.specs.Key.{Key, key_of, whole_of, path_of, name_of, fronts, folders_above, root_path, Rejoins}
@@ -10,9 +10,8 @@ use Rattle.arti_rows.specs.Names.{is_repo_key, path_fault, key_fault, IsKey}
 use Rattle.arti_rows.specs.declared.fault.KeyFault.{KeyFault}
 use Rattle.arti_rows.specs.declared.fault.KeyFault.TheVariants.{BadName}
 use Rattle.arti_tree.specs.Rows.{has_folder, folder_of}
-use Rattle.arti_tree.proofs.IdLists.{no_eq}
-use Rattle.arti_tree.proofs.Fronts.{front_good}
-use Rattle.arti_tree.proofs.Cuts.{cut_at, uncut, whole_of-key_of}
+use Rattle.arti_rows.specs.FolderLaws.{front_good}
+use Rattle.arti_rows.specs.CutLaws.{cut_at, uncut, whole_of-key_of}
 
 abbrev slash : ℕ → Bool
 slash b = b == 47
@@ -26,10 +25,6 @@ record LastSlash (s : List ℕ) : Type 0 where
   pub is : get_or s at 0 ≡ 47
   pub none : (k : ℕ) → at + 1 ≤ k → k < length s → get_or s k 0 ≢ 47
 
-eq_or : (b : Bool) → (b ≡ true) ⊎ (b ≡ false)
-eq_or true = inl refl
-eq_or false = inr refl
-
 none_from : (x : ℕ) (s : List ℕ) → x ≢ 47 → HasNone s → HasNone (x ∷ s)
 none_from x s ne none zero below = ne
 none_from x s ne none (suc k) below = none k (omega arith)
@@ -41,7 +36,7 @@ none_behind x s n none (suc k) above below = none k (omega arith) (omega arith)
 last_slash : (s : List ℕ) → HasNone s ⊎ LastSlash s
 last_slash [] = inl (λ k below. absurd (omega arith))
 last_slash (x ∷ s) = ⊎_elim
-    (λ (none : HasNone s). ⊎_elim (λ (e : eqb x 47 ≡ true). inr (first (eqb-true x 47 e) none)) (λ (e : eqb x 47 ≡ false). inl (none_from x s (eqb-false x 47 e) none)) (eq_or (eqb x 47)))
+    (λ (none : HasNone s). ⊎_elim (λ (e : eqb x 47 ≡ true). inr (first (eqb-true x 47 e) none)) (λ (e : eqb x 47 ≡ false). inl (none_from x s (eqb-false x 47 e) none)) (cases_Bool (eqb x 47)))
     (λ (l : LastSlash s). inr (later l))
     (last_slash s)
   where
@@ -75,7 +70,7 @@ fronts_none : (s : List ℕ) → HasNone s → fronts s ≡ []
 fronts_none [] none = refl
 fronts_none (x ∷ s) none =
     let longer = λ (front : List ℕ). x ∷ front in
-    ap (λ b. cond b ([] ∷ map longer (fronts s)) (map longer (fronts s))) (no_eq x 47 (none 0 (omega arith))) ∙ ap (map longer) (fronts_none s (λ k below. none (suc k) (omega arith)))
+    ap (λ b. cond b ([] ∷ map longer (fronts s)) (map longer (fronts s))) (ne_eqb x 47 (none 0 (omega arith))) ∙ ap (map longer) (fronts_none s (λ k below. none (suc k) (omega arith)))
 
 fronts_by : (b : Bool) (x : ℕ) (a p : List (List ℕ)) (last : List ℕ) → a ≡ p ++ last ∷ [] → cond b ([] ∷ map (λ (front : List ℕ). x ∷ front) a) (map (λ (front : List ℕ). x ∷ front) a) ≡ cond b ([] ∷ map (λ (front : List ℕ). x ∷ front) p) (map (λ (front : List ℕ). x ∷ front) p) ++ (x ∷ last) ∷ []
 fronts_by true x a p last e = ap (λ (l : List (List ℕ)). [] ∷ l) (ap (map (λ (front : List ℕ). x ∷ front)) e ∙ map-append (λ (front : List ℕ). x ∷ front) p (last ∷ []))
@@ -89,6 +84,14 @@ good_by : (b : Bool) (whole : List ℕ) (fault : KeyFault) → cond b (path_faul
 good_by true whole fault e = e
 good_by false whole fault e = cc
 
+whole_by : (b : Bool) (k : Key) → pointwise nat_eq k.path root_path ≡ b → not b ≡ true → whole_of k ≡ k.path ++ 47 ∷ k.name
+whole_by true k e f = cc
+whole_by false k e f = ap (λ c. cond c k.name (k.path ++ 47 ∷ k.name)) e
+
+-- the whole of what lies in a folder
+pub whole_in : (k : Key) → has_folder k ≡ true → whole_of k ≡ k.path ++ 47 ∷ k.name
+whole_in k has = whole_by (pointwise nat_eq k.path root_path) k refl has
+
 module _ (k : Key) (is : IsKey k) where
   pub good : path_fault (whole_of k) ≡ None
   good = good_by (is_repo_key k.repo) (whole_of k) BadName is.good
@@ -96,13 +99,9 @@ module _ (k : Key) (is : IsKey k) where
   pub plain : HasNone k.name
   plain = subst HasNone (ap (λ (x : Key). x.name) is.cut) (plain_name (whole_of k))
 
-  whole_by : (b : Bool) → pointwise nat_eq k.path root_path ≡ b → not b ≡ true → whole_of k ≡ k.path ++ 47 ∷ k.name
-  whole_by true e f = cc
-  whole_by false e f = ap (λ c. cond c k.name (k.path ++ 47 ∷ k.name)) e
-
   module _ (has : has_folder k ≡ true) where
     pub joined : whole_of k ≡ k.path ++ 47 ∷ k.name
-    joined = whole_by (pointwise nat_eq k.path root_path) refl has
+    joined = whole_in k has
 
     -- its folder's path and name joined is its path
     pub folder_whole : whole_of (folder_of k) ≡ k.path

@@ -2,26 +2,25 @@
 use Rattle.std.proofs.Common.{◌≡◌, ◌≢◌, ℕ, ◌-◌, ◌<◌, ◌≤◌, ◌⊎◌, ⊎_elim, zero, suc, Bool, true, false, cond, eqb, List, [], ◌∷◌, length, get_or, Option, Some, None, option_map, refl, sym, ap, ◌∙◌, subst, arith, Less, Greater}
 use Rattle.std.specs.Prelude.{IfSome}
 use Rattle.std.specs.List.{filter, insert}
-use Rattle.std.proofs.lemmas.Bool.{cases_lt, eqb-false}
+use Rattle.std.proofs.lemmas.Bool.{cases_lt, eqb-false, ne_eqb}
 use Rattle.std.proofs.lemmas.List.{length-map}
-use Rattle.arti_rows.specs.Key.{Key, key_cmp}
+use Rattle.arti_rows.specs.Key.{Key, key_cmp, same_key}
 use Rattle.arti_tree.specs.declared.slot.Slot.{Slot}
 use Rattle.arti_tree.specs.Ids.{AscendFrom, Lacks}
-use Rattle.arti_tree.specs.Rows.{Row, ids, row_of, row_at, same_key, has_folder, folder_of, folder_id, lies_in, is_of, with_row, RowsFrom}
+use Rattle.arti_tree.specs.Rows.{Row, ids, row_of, row_at, has_folder, folder_of, folder_id, lies_in, is_of, with_row, RowsFrom}
 use Rattle.arti_tree.specs.Slots.{at, row_with, live, key_at}
 use Rattle.arti_tree.specs.Kept.{inside, Ordered, Kept}
-use Rattle.arti_tree.proofs.IdLists.{no_eq}
 use Rattle.arti_tree.proofs.RowLists.{cond_none, filtered_ascend, ids_ascend}
-use Rattle.arti_tree.proofs.Order.{to_less}
 use Rattle.arti_tree.proofs.Rises.{found_live}
 use Rattle.arti_tree.proofs.Lives.{row_of_live}
 use Rattle.arti_tree.proofs.Looks.{kept_as, slot_within, before_there, behind_there, no_row}
 use Rattle.arti_tree.proofs.Growing.{Fresh, order_more}
+use Rattle.arti_rows.specs.KeyLaws.{key_cmp-Greater}
 
 -- an id that no row has
 pub lacks_row : (rows : List Row) (id : ℕ) → Lacks (ids rows) id → row_of rows id ≡ None
 lacks_row [] id lacks = refl
-lacks_row (x ∷ rows) id lacks = ap (λ b. cond b (Some x) (row_of rows id)) (no_eq x.id id (lacks 0 (omega arith))) ∙ lacks_row rows id (λ k h. lacks (suc k) (omega arith))
+lacks_row (x ∷ rows) id lacks = ap (λ b. cond b (Some x) (row_of rows id)) (ne_eqb x.id id (lacks 0 (omega arith))) ∙ lacks_row rows id (λ k h. lacks (suc k) (omega arith))
 
 eq_from_false : (a b : ℕ) → eqb a b ≡ false → a ≢ b
 eq_from_false a b e = eqb-false a b e
@@ -136,7 +135,7 @@ module _ (slots : List (Option Slot)) (all order : List ℕ) (lists : ℕ → Li
         let o = kept.order_is in
         let long : length order ≡ length o.sorted = ap length o.is ∙ length-map o.sorted (λ (r : Row). r.id) in
         order_more rows new kept.tree fresh order o place (omega (arith, long)) (before_there slots order kept.tree o k place within before behind)
-        (λ j le below. to_less (get_or o.sorted j no_row).key k (behind_there slots order kept.tree o k place within before behind j le below))
+        (λ j le below. key_cmp-Greater (get_or o.sorted j no_row).key k (behind_there slots order kept.tree o k place within before behind j le below))
 
 pub if_some_more : (o : Option ℕ) (m n : ℕ) → IfSome o (λ f. f < m) → m ≤ n → IfSome o (λ f. f < n)
 if_some_more None m n h le = tt

@@ -1,13 +1,15 @@
 -- Something lies beneath a key exactly where something lies in it.
-use Rattle.std.proofs.Common.{◌≡◌, ℕ, ◌+◌, ◌<◌, ◌⊎◌, ⊎_elim, inl, inr, zero, suc, Bool, true, false, cond, List, [], ◌∷◌, ◌++◌, length, Option, Some, None, refl, sym, ap, ◌∙◌, arith}
+use Rattle.std.proofs.Common.{◌≡◌, ℕ, ◌+◌, ◌<◌, ◌⊎◌, ⊎_elim, zero, suc, Bool, true, false, cond, List, [], ◌∷◌, ◌++◌, length, Option, Some, None, refl, sym, ap, ◌∙◌, arith}
 use Rattle.std.specs.Prelude.{◌||◌, not}
 use Rattle.std.specs.Option.{option_map_or, is_none, is_some}
 use Rattle.std.specs.List.{list_any, find}
-use Rattle.arti_rows.specs.Key.{Key, whole_of, folders_above}
-use Rattle.arti_tree.specs.Rows.{Row, row_of, same_key, has_folder, folder_of, lies_in, lies_beneath, may_go, IsLive, IsTree}
-use Rattle.arti_tree.proofs.Rises.{found_passes, found_live, same_from_true}
-use Rattle.arti_tree.proofs.Folders.{and_parts, both_true, none_passes}
+use Rattle.arti_rows.specs.Key.{Key, whole_of, folders_above, same_key}
+use Rattle.arti_tree.specs.Rows.{Row, row_of, has_folder, folder_of, lies_in, lies_beneath, may_go, IsLive, IsTree}
+use Rattle.arti_tree.proofs.Rises.{found_passes, found_live}
+use Rattle.arti_tree.proofs.Folders.{none_passes}
 use Rattle.arti_tree.proofs.Above.{above, none_above, shorter}
+use Rattle.arti_rows.specs.KeyLaws.{same_key-true}
+use Rattle.std.proofs.lemmas.Bool.{and_parts, and_from, or_cases, or_right, cases_Bool}
 
 or_by : (a b c : Bool) → (a || b) || c ≡ a || (b || c)
 or_by true b c = refl
@@ -28,18 +30,6 @@ any_found p (x ∷ rows) = ap (λ b. p x || b) (any_found p rows) ∙ by_first (
     by_first : (b : Bool) (o : Option Row) → b || is_some o ≡ is_some (cond b (Some x) o)
     by_first true o = refl
     by_first false o = refl
-
-pub or_parts : (a b : Bool) → (a || b) ≡ true → (a ≡ true) ⊎ (b ≡ true)
-or_parts true b e = inl refl
-or_parts false b e = inr e
-
-pub or_right : (a b : Bool) → b ≡ true → (a || b) ≡ true
-or_right true b e = refl
-or_right false b e = e
-
-pub eq_or : (b : Bool) → (b ≡ true) ⊎ (b ≡ false)
-eq_or true = inl refl
-eq_or false = inr refl
 
 -- a live row that passes a test
 pub record Passes (rows : List Row) (p : Row → Bool) : Type 0 where
@@ -65,14 +55,14 @@ module _ (rows : List Row) (tree : IsTree rows) (k : Key) where
       sym (ap (list_any (λ f. same_key f k)) (above x.key key has) ∙ any_push (λ f. same_key f k) (folders_above (folder_of x.key)) (folder_of x.key)) ∙ e in
       let folder = tree.folders x live has in
       let f_live : IsLive rows folder.row = found_live (λ y. same_key y.key (folder_of x.key)) 0 rows folder.row tree.ascend folder.there in
-      let f_key : folder.row.key ≡ folder_of x.key = same_from_true folder.row.key (folder_of x.key) (found_passes (λ y. same_key y.key (folder_of x.key)) rows folder.row folder.there) in
+      let f_key : folder.row.key ≡ folder_of x.key = same_key-true folder.row.key (folder_of x.key) (found_passes (λ y. same_key y.key (folder_of x.key)) rows folder.row folder.there) in
       let less : length (whole_of folder.row.key) < n = omega (arith, ap (λ (j : Key). length (whole_of j)) f_key, shorter x.key key has, short) in
       ⊎_elim
       (λ (higher : list_any (λ f. same_key f k) (folders_above (folder_of x.key)) ≡ true). beneath_in n folder.row less f_live (ap (λ (j : Key). list_any (λ f. same_key f k) (folders_above j)) f_key ∙ higher))
-      (λ (here : same_key (folder_of x.key) k ≡ true). record { row = x; live = live; passes = both_true (has_folder x.key) (same_key (folder_of x.key) k) has here })
-      (or_parts (list_any (λ f. same_key f k) (folders_above (folder_of x.key))) (same_key (folder_of x.key) k) split))
+      (λ (here : same_key (folder_of x.key) k ≡ true). record { row = x; live = live; passes = and_from (has_folder x.key) (same_key (folder_of x.key) k) has here })
+      (or_cases (list_any (λ f. same_key f k) (folders_above (folder_of x.key))) (same_key (folder_of x.key) k) split))
       (λ (has : has_folder x.key ≡ false). let none : false ≡ true = sym (ap (list_any (λ f. same_key f k)) (none_above x.key (tree.keys x live) has)) ∙ e in cc)
-      (eq_or (has_folder x.key))
+      (cases_Bool (has_folder x.key))
 
   some_by : (a b : Option Row) → find (lies_in k) rows ≡ a → find (lies_beneath k) rows ≡ b → is_some a ≡ is_some b
   some_by None None e f = refl

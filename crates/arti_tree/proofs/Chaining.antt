@@ -2,27 +2,27 @@
 use Rattle.std.proofs.Common.{◌≡◌, ◌≢◌, ℕ, ◌+◌, ◌<◌, ◌^◌, ◌⊎◌, ⊎_elim, inl, inr, zero, suc, Bool, true, false, cond, eqb, List, [], ◌∷◌, ◌++◌, length, get_or, Option, Some, None, refl, sym, ap, ◌∙◌, subst, arith, append_assoc, append-nil}
 use Rattle.std.specs.Prelude.{◌&&◌, not, nat_lt}
 use Rattle.std.specs.List.{find, remove}
-use Rattle.std.proofs.lemmas.Bool.{eqb-true, eqb-false}
-use Rattle.arti_rows.specs.Key.{Key, whole_of}
+use Rattle.std.proofs.lemmas.Bool.{eqb-true, eqb-false, eq-eqb, false_from_ne_true}
+use Rattle.arti_rows.specs.Key.{Key, whole_of, same_key}
 use Rattle.arti_tree.specs.Ids.{Lacks}
-use Rattle.arti_tree.specs.Rows.{Row, row_of, row_at, same_key, has_folder, folder_of, lies_in, with_row, without_row, IsLive, IsTree}
+use Rattle.arti_tree.specs.Rows.{Row, row_of, row_at, has_folder, folder_of, lies_in, with_row, without_row, IsLive, IsTree}
 use Rattle.arti_tree.specs.Adds.{AreFree, is_end}
 use Rattle.arti_tree.specs.Chains.{CanAdd, Leads, Pushes}
-use Rattle.arti_tree.proofs.IdLists.{yes_eq}
 use Rattle.arti_tree.proofs.RowLists.{find_with_no, find_with_yes, cond_none, without_none}
-use Rattle.arti_tree.proofs.Rises.{found_live, found_passes, is_false, same_from_true, same_itself}
+use Rattle.arti_tree.proofs.Rises.{found_live, found_passes}
 use Rattle.arti_tree.proofs.Above.{shorter}
 use Rattle.arti_tree.proofs.Growing.{Fresh, none_in_new, tree_more, long_more}
+use Rattle.arti_rows.specs.KeyLaws.{same_key-true, same_key-refl}
 
 undone_by : (b : Bool) (r x : Row) (rows w : List Row) → eqb x.id r.id ≡ false → without_row r.id rows ≡ rows → without_row r.id w ≡ rows → without_row r.id (cond b (r ∷ x ∷ rows) (x ∷ w)) ≡ x ∷ rows
 undone_by true r x rows w ne kept same =
-    ap (λ b. cond (not b) (r ∷ without_row r.id (x ∷ rows)) (without_row r.id (x ∷ rows))) (yes_eq r.id r.id refl)
+    ap (λ b. cond (not b) (r ∷ without_row r.id (x ∷ rows)) (without_row r.id (x ∷ rows))) (eq-eqb r.id r.id refl)
     ∙ ap (λ b. cond (not b) (x ∷ without_row r.id rows) (without_row r.id rows)) ne ∙ ap (λ l. x ∷ l) kept
 undone_by false r x rows w ne kept same = ap (λ b. cond (not b) (x ∷ without_row r.id w) (without_row r.id w)) ne ∙ ap (λ l. x ∷ l) same
 
 -- a row that is added and dropped
 pub row_undone : (r : Row) (rows : List Row) → row_of rows r.id ≡ None → without_row r.id (with_row r rows) ≡ rows
-row_undone r [] none = ap (λ b. cond (not b) (r ∷ []) []) (yes_eq r.id r.id refl)
+row_undone r [] none = ap (λ b. cond (not b) (r ∷ []) []) (eq-eqb r.id r.id refl)
 row_undone r (x ∷ rows) none =
     let parts = cond_none (eqb x.id r.id) x (row_of rows r.id) none in
     undone_by (nat_lt r.id x.id) r x rows (with_row r rows) parts.0 (without_none r.id rows parts.1) (row_undone r rows parts.1)
@@ -86,7 +86,7 @@ module _ (rows : List Row) (tree : IsTree rows) (k : Key) (keys : List Key) (is_
   missing_by m None is has leads = is
   missing_by m (Some x) is has leads =
       let live = found_live (λ y. same_key y.key m) 0 rows x tree.ascend is in
-      let same : x.key ≡ m = same_from_true x.key m (found_passes (λ y. same_key y.key m) rows x is) in
+      let same : x.key ≡ m = same_key-true x.key m (found_passes (λ y. same_key y.key m) rows x is) in
       let f = tree.folders x live (ap has_folder same ∙ has) in
       let there : row_at rows k ≡ Some f.row = ap (row_at rows) (sym leads ∙ ap folder_of (sym same)) ∙ f.there in
       let no : None ≡ Some f.row = sym can.2 ∙ there in
@@ -100,8 +100,8 @@ module _ (rows : List Row) (tree : IsTree rows) (k : Key) (keys : List Key) (is_
       by_keys [] leads is = tt
       by_keys (m ∷ l) leads is =
           let folder : new.is_file ≡ false = ap (λ (j : List Key). is_file && is_end j) (sym is) ∙ and_false is_file in
-          let there : row_at (with_row new rows) k ≡ Some new = find_with_yes (λ y. same_key y.key k) new rows (same_itself k) can.2 in
-          let apart : same_key k m ≡ false = is_false (same_key k m) (λ e. let same : k ≡ m = same_from_true k m e in
+          let there : row_at (with_row new rows) k ≡ Some new = find_with_yes (λ y. same_key y.key k) new rows (same_key-refl k) can.2 in
+          let apart : same_key k m ≡ false = false_from_ne_true (same_key k m) (λ e. let same : k ≡ m = same_key-true k m e in
           let less = shorter m leads.0 leads.1 in omega (arith, less, ap (λ (j : Key). length (whole_of j)) (leads.2 ∙ same))) in (
             leads.0,
             (λ has. record { row = new; there = ap (row_at (with_row new rows)) leads.2 ∙ there; folder = folder }),
@@ -110,7 +110,7 @@ module _ (rows : List Row) (tree : IsTree rows) (k : Key) (keys : List Key) (is_
           )
 
   pub live_new : IsLive (with_row new rows) new
-  live_new = find_with_yes (λ y. eqb y.id id) new rows (yes_eq id id refl) none
+  live_new = find_with_yes (λ y. eqb y.id id) new rows (eq-eqb id id refl) none
 
   pub empty_new : find (lies_in k) (with_row new rows) ≡ None
   empty_new = none_in_new rows new tree fresh

@@ -6,13 +6,15 @@ use Rattle.std.specs.List.{filter, find}
 use Rattle.std.proofs.lemmas.Bool.{cases_lt}
 use Rattle.std.proofs.lemmas.List.Elements.{All-append, All-cons, All-nil}
 use Rattle.std.proofs.lemmas.List.{get_or_default, get_or-take}
-use Rattle.arti_rows.specs.Key.{Key, whole_of, folders_above}
+use Rattle.arti_rows.specs.Key.{Key, whole_of, folders_above, same_key}
 use Rattle.arti_rows.specs.Names.{IsKey}
-use Rattle.arti_tree.specs.Rows.{Row, row_at, same_key, has_folder, folder_of, IsFolder, HasFolder, IsTree}
+use Rattle.std.proofs.Math.Seq.{drop-cons}
+use Rattle.arti_tree.specs.Rows.{Row, row_at, has_folder, folder_of, IsFolder, HasFolder, IsTree}
 use Rattle.arti_tree.specs.Adds.{is_missing, is_file_at}
 use Rattle.arti_tree.specs.Chains.{CanAdd, Leads}
-use Rattle.arti_tree.proofs.Rises.{found_live, found_passes, same_from_true}
+use Rattle.arti_tree.proofs.Rises.{found_live, found_passes}
 use Rattle.arti_tree.proofs.Above.{above, none_above, shorter, folder_key}
+use Rattle.arti_rows.specs.KeyLaws.{same_key-true}
 
 eq_or : (b : Bool) → (b ≡ true) ⊎ (b ≡ false)
 eq_or true = inl refl
@@ -25,7 +27,7 @@ all_by (suc n) rows k tree is short has = ⊎_elim
     (λ (e : has_folder k ≡ true).
     let f = has e in
     let live = found_live (λ y. same_key y.key (folder_of k)) 0 rows f.row tree.ascend f.there in
-    let same : f.row.key ≡ folder_of k = same_from_true f.row.key (folder_of k) (found_passes (λ y. same_key y.key (folder_of k)) rows f.row f.there) in
+    let same : f.row.key ≡ folder_of k = same_key-true f.row.key (folder_of k) (found_passes (λ y. same_key y.key (folder_of k)) rows f.row f.there) in
     let higher : HasFolder rows (folder_of k) = subst (λ (j : Key). HasFolder rows j) same (tree.folders f.row live) in
     let rest = all_by n rows (folder_of k) tree (folder_key k is e) (omega (arith, shorter k is e, short)) higher in
     subst (λ (l : List Key). All (IsFolder rows) l) (sym (above k is e)) (All-append (IsFolder rows) (folders_above (folder_of k)) (folder_of k ∷ []) rest (All-cons (IsFolder rows) (folder_of k) [] f (All-nil (IsFolder rows)))))
@@ -128,7 +130,7 @@ module _ (rows : List Row) (k : Key) (folders : List Key) (tree : IsTree rows) (
       let f : Key = get_or (folders_above k) i k in
       let at : row_at rows f ≡ Some r = ap (λ (l : List Key). row_at rows (get_or l i k)) (sym chain) ∙ there in
       let live = found_live (λ y. same_key y.key f) 0 rows r tree.ascend at in
-      let same : r.key ≡ f = same_from_true r.key f (found_passes (λ y. same_key y.key f) rows r at) in
+      let same : r.key ≡ f = same_key-true r.key f (found_passes (λ y. same_key y.key f) rows r at) in
       let has : HasFolder rows f = subst (λ (x : Key). HasFolder rows x) same (tree.folders r live) in
       let all = all_folders rows f tree s.is has in
       let within : j < length (take i (folders_above k)) = omega (arith, length_take i (folders_above k) (subst (λ (l : List Key). i < length l) chain below)) in
@@ -154,11 +156,6 @@ module _ (rows : List Row) (k : Key) (folders : List Key) (tree : IsTree rows) (
   pub first_file : (i : ℕ) (r : Row) → i < length folders → row_at rows (get_or folders i k) ≡ Some r → r.is_file ≡ true → find (is_file_at rows) folders ≡ Some (get_or folders i k)
   first_file i r below there file =
       find_place (is_file_at rows) folders i k below (λ j l. let f = higher i r below there j l in file_some rows (get_or folders j k) f.row f.there ∙ f.folder) (file_some rows (get_or folders i k) r there ∙ file)
-
-drop_next : (xs : List Key) (n : ℕ) (d : Key) → n < length xs → drop n xs ≡ get_or xs n d ∷ drop (suc n) xs
-drop_next [] n d below = absurd (omega arith)
-drop_next (x ∷ xs) zero d below = refl
-drop_next (x ∷ xs) (suc n) d below = drop_next xs n d (omega arith)
 
 drop_end : (xs : List Key) → drop (length xs) xs ≡ []
 drop_end [] = refl
@@ -215,7 +212,7 @@ module _ (key : Key) (fs : List Key) (is : IsKey key) (chain : fs ≡ folders_ab
   leads_by (suc m) n e =
       let t = there_is (suc n) (omega (arith, e)) in
       let lead = lead_at (get_or fs (suc n) key) n t.0 (omega (arith, e)) t.1 in
-      subst (λ (l : List Key). Leads (get_or fs n key) (l ++ key ∷ [])) (sym (drop_next fs (suc n) key (omega (arith, e)))) (t.0, lead.0, lead.1, leads_by m (suc n) (omega (arith, e)))
+      subst (λ (l : List Key). Leads (get_or fs n key) (l ++ key ∷ [])) (sym (drop-cons fs (suc n) key (omega (arith, e)))) (t.0, lead.0, lead.1, leads_by m (suc n) (omega (arith, e)))
 
   module _ (rows : List Row) (n : ℕ) (le : n ≤ length fs) (last : 0 < n → IsFolder rows (get_or fs (n - 1) key)) where
     has_its : (f : Key) → IsKey f → folders_above f ≡ take n fs → HasFolder rows f
@@ -235,7 +232,7 @@ module _ (key : Key) (fs : List Key) (is : IsKey key) (chain : fs ≡ folders_ab
     can_add missing none = ⊎_elim
         (λ (below : n < length fs).
         let t = there_is n below in
-        let next = drop_next fs n key below in
+        let next = drop-cons fs n key below in
         subst (λ (l : List Key). CanAdd rows (l ++ key ∷ [])) (sym next)
         (t.0, has_its (get_or fs n key) t.0 t.1, first_missing rows fs (get_or fs n key) (drop (suc n) fs) (missing ∙ next), leads_by (length fs - n - 1) n (omega arith)))
         (λ (past : length fs ≤ n).

@@ -4,21 +4,20 @@ use Rattle.std.specs.Prelude.{◌||◌, ◌==◌}
 use Rattle.std.specs.Option.{option_map_or}
 use Rattle.std.specs.List.{filter}
 use Rattle.std.proofs.Math.Seq.{take-length}
-use Rattle.std.proofs.lemmas.Bool.{eqb-true, eqb-false}
+use Rattle.std.proofs.lemmas.Bool.{eqb-true, eqb-false, eq-eqb, ne_eqb, false_from_ne_true, or_cases, or_right, cases_Bool}
 use Rattle.std.proofs.lemmas.List.{length-map}
-use Rattle.arti_rows.specs.Key.{Key, whole_of}
+use Rattle.arti_rows.specs.Key.{Key, whole_of, same_key}
 use Rattle.arti_rows.specs.Names.{IsKey}
-use Rattle.arti_tree.specs.Rows.{Row, ids, row_of, folder_of, same_key, lies_in, IsLive, IsTree, RowsFrom}
+use Rattle.arti_tree.specs.Rows.{Row, ids, row_of, folder_of, lies_in, IsLive, IsTree, RowsFrom}
 use Rattle.arti_tree.specs.Renames.{is_within, has, Once, AreWithin}
-use Rattle.arti_tree.proofs.IdLists.{yes_eq, no_eq}
 use Rattle.arti_tree.proofs.RowLists.{filtered_ascend}
-use Rattle.arti_tree.proofs.Rises.{found_live, found_passes, is_false, same_from_true}
+use Rattle.arti_tree.proofs.Rises.{found_live, found_passes}
 use Rattle.arti_tree.proofs.Folders.{lying, lies}
 use Rattle.arti_tree.proofs.Above.{shorter, folder_key}
-use Rattle.arti_tree.proofs.Beneath.{or_parts, or_right, eq_or}
 use Rattle.arti_tree.proofs.Under.{Under, Within, Path, within_cases, within_is, within_itself, under_within, within_folder, path_under, folder_in}
 use Rattle.arti_tree.proofs.Members.{once, has_rows, first_has, false_true}
 use Rattle.arti_tree.proofs.Mapped.{one_id, one_key, both_ways}
+use Rattle.arti_rows.specs.KeyLaws.{same_key-true}
 
 -- the row of an id is within a key
 pub record Found (rows : List Row) (from : Key) (i : ℕ) : Type 0 where
@@ -95,7 +94,7 @@ once_before [] n a below = absurd (omega arith)
 once_before (x ∷ xs) zero a below = refl
 once_before (x ∷ xs) (suc n) a below =
     none_of_both (x == get_or xs n 0) (has (take n xs) (get_or xs n 0))
-    (no_eq x (get_or xs n 0) (λ e. false_true (has xs x) a.0 (ap (has xs) e ∙ at_has xs n (omega arith)))) (once_before xs n a.1 (omega arith))
+    (ne_eqb x (get_or xs n 0) (λ e. false_true (has xs x) a.0 (ap (has xs) e ∙ at_has xs n (omega arith)))) (once_before xs n a.1 (omega arith))
 
 -- without the first of an id
 less : ℕ → List ℕ → List ℕ
@@ -112,7 +111,7 @@ long_less x [] e = cc
 long_less x (y ∷ ys) e = less_long (y == x) x y ys refl e (long_less x ys)
 
 less_by : (b : Bool) (x y i : ℕ) (ys w : List ℕ) → (y == x) ≡ b → x ≢ i → has w i ≡ has ys i → has (cond b ys (y ∷ w)) i ≡ has (y ∷ ys) i
-less_by true x y i ys w is ne e = sym (ap (λ b. b || has ys i) (no_eq y i (λ s. ne (sym (eqb-true y x is) ∙ s))))
+less_by true x y i ys w is ne e = sym (ap (λ b. b || has ys i) (ne_eqb y i (λ s. ne (sym (eqb-true y x is) ∙ s))))
 less_by false x y i ys w is ne e = ap (λ b. (y == i) || b) e
 
 has_less : (x i : ℕ) (ys : List ℕ) → x ≢ i → has (less x ys) i ≡ has ys i
@@ -201,7 +200,7 @@ module _ (rows : List Row) (from : Key) (tree : IsTree rows) (from_is : IsKey fr
         ap (λ (l : List ℕ). has l i) (take_front found (ids (filter (lies_in p.key) rows)) (n + 1) (omega arith)) ∙ has_next found n i below ∙ ap (λ m. has (take n found) i || (m == i)) (sym p_id)
 
     apart : (i : ℕ) → has found i ≡ true → has (ids (filter (lies_in p.key) rows)) i ≡ false
-    apart i e = is_false (has (ids (filter (lies_in p.key) rows)) i) (λ c.
+    apart i e = false_from_ne_true (has (ids (filter (lies_in p.key) rows)) i) (λ c.
         let x = in_it i c in
         ⊎_elim
         (λ (a : eqb x.0.id r.id ≡ true).
@@ -211,7 +210,7 @@ module _ (rows : List Row) (from : Key) (tree : IsTree rows) (from_is : IsKey fr
         let q = s.parents x.0 x.1 (ap (has found) x.2 ∙ e) (eqb-false x.0.id r.id a) in
         let same : q.row ≡ p = one_folder q.row p x.0 q.live p_live q.lies x.4 in
         false_true (has (take n found) (get_or found n 0)) (once_before found n s.once below) (ap (has (take n found)) (sym (ap (λ (y : Row). y.id) same ∙ p_id)) ∙ q.has_it))
-        (eq_or (eqb x.0.id r.id)))
+        (cases_Bool (eqb x.0.id r.id)))
 
     pub next : FindsWithin rows from r.id (found ++ ids (filter (lies_in p.key) rows)) (n + 1)
     next =
@@ -222,21 +221,21 @@ module _ (rows : List Row) (from : Key) (tree : IsTree rows) (from_is : IsKey fr
           sound = λ i e. ⊎_elim
               (λ (a : has found i ≡ true). s.sound i a)
               (λ (b : has more i ≡ true). let x = in_it i b in let f : Found rows from i = record { row = x.0; live = x.1; is = x.2; of = x.3; within = into p x.0 x.1 p_within x.4 } in f)
-              (or_parts (has found i) (has more i) (sym (has_append found more i) ∙ e));
+              (or_cases (has found i) (has more i) (sym (has_append found more i) ∙ e));
           top = has_append found more r.id ∙ or_left (has found r.id) (has more r.id) s.top;
           closed = λ x f x_live f_live lay e. has_append found more x.id ∙ ⊎_elim
               (λ (a : has (take n found) f.id ≡ true). or_left (has found x.id) (has more x.id) (s.closed x f x_live f_live lay a))
               (λ (b : eqb p.id f.id ≡ true).
               let same : f ≡ p = one_id rows f p f_live p_live (sym (eqb-true p.id f.id b)) in
               or_right (has found x.id) (has more x.id) (lies_has x x_live (ap (λ (y : Row). lies_in y.key x) (sym same) ∙ lay)))
-              (or_parts (has (take n found) f.id) (p.id == f.id) (sym (first_ones f.id) ∙ e));
+              (or_cases (has (take n found) f.id) (p.id == f.id) (sym (first_ones f.id) ∙ e));
           parents = λ x live e ne. ⊎_elim
               (λ (a : has found x.id ≡ true). let q = s.parents x live a ne in let f : Parent rows (take (n + 1) (found ++ more)) x = record { row = q.row; live = q.live; has_it = first_ones q.row.id ∙ or_left (has (take n found) q.row.id) (p.id == q.row.id) q.has_it; lies = q.lies } in f)
               (λ (b : has more x.id ≡ true).
               let y = in_it x.id b in
               let same : y.0 ≡ x = one_id rows y.0 x y.1 live y.2 in
-              let f : Parent rows (take (n + 1) (found ++ more)) x = record { row = p; live = p_live; has_it = first_ones p.id ∙ or_right (has (take n found) p.id) (p.id == p.id) (yes_eq p.id p.id refl); lies = ap (lies_in p.key) (sym same) ∙ y.4 } in f)
-              (or_parts (has found x.id) (has more x.id) (sym (has_append found more x.id) ∙ e));
+              let f : Parent rows (take (n + 1) (found ++ more)) x = record { row = p; live = p_live; has_it = first_ones p.id ∙ or_right (has (take n found) p.id) (p.id == p.id) (eq-eqb p.id p.id refl); lies = ap (lies_in p.key) (sym same) ∙ y.4 } in f)
+              (or_cases (has found x.id) (has more x.id) (sym (has_append found more x.id) ∙ e));
         }
 
   -- no more are found than there are rows
@@ -254,7 +253,7 @@ module _ (rows : List Row) (from : Key) (tree : IsTree rows) (from_is : IsKey fr
       let p : Path from x.key = path_under from x.key is u in
       let f = tree.folders x live p.has in
       let f_live : IsLive rows f.row = found_live (λ y. same_key y.key (folder_of x.key)) 0 rows f.row tree.ascend f.there in
-      let f_key : f.row.key ≡ folder_of x.key = same_from_true f.row.key (folder_of x.key) (found_passes (λ y. same_key y.key (folder_of x.key)) rows f.row f.there) in
+      let f_key : f.row.key ≡ folder_of x.key = same_key-true f.row.key (folder_of x.key) (found_passes (λ y. same_key y.key (folder_of x.key)) rows f.row f.there) in
       let less : length (whole_of f.row.key) < m = omega (arith, ap (λ (k : Key). length (whole_of k)) f_key, shorter x.key is p.has, short) in
       let there : has found f.row.id ≡ true = complete found n m f.row s all less f_live (ap (is_within from) f_key ∙ folder_in from x.key from_is is p u.repo) in
       s.closed x f.row live f_live (ap (λ (k : Key). lies_in k x) f_key ∙ lies x p.has) (ap (λ (l : List ℕ). has l f.row.id) all ∙ there))
@@ -338,4 +337,4 @@ place_of_id [] i e = cc
 place_of_id (x ∷ xs) i e = ⊎_elim
     (λ (a : eqb x i ≡ true). let p : (k : ℕ) × (k < length (x ∷ xs)) × (get_or (x ∷ xs) k 0 ≡ i) = (0, omega arith, eqb-true x i a) in p)
     (λ (b : has xs i ≡ true). let q = place_of_id xs i b in let p : (k : ℕ) × (k < length (x ∷ xs)) × (get_or (x ∷ xs) k 0 ≡ i) = (suc q.0, omega (arith, q.1), q.2) in p)
-    (or_parts (x == i) (has xs i) e)
+    (or_cases (x == i) (has xs i) e)

@@ -1,26 +1,19 @@
 -- What lies in which folder.
 use Rattle.std.proofs.Common.{◌≡◌, ℕ, Bool, true, false, cond, eqb, List, [], ◌∷◌, length, Option, Some, None, option_map, refl, sym, ap, ◌∙◌, subst, arith}
-use Rattle.std.specs.Prelude.{◌&&◌, ◌==◌}
+use Rattle.std.specs.Prelude.{◌==◌}
 use Rattle.std.specs.List.{filter, find}
-use Rattle.std.proofs.lemmas.Bool.{false≢true, eqb-true}
-use Rattle.arti_rows.specs.Key.{Key}
+use Rattle.std.proofs.lemmas.Bool.{false≢true, eqb-true, eq-eqb, ne_eqb, and_parts, and_from}
+use Rattle.arti_rows.specs.Key.{Key, same_key}
 use Rattle.arti_tree.specs.declared.slot.Slot.{Slot}
-use Rattle.arti_tree.specs.Rows.{Row, row_of, row_at, same_key, has_folder, folder_of, folder_id, lies_in, IsLive, IsTree, RowsFrom}
+use Rattle.arti_tree.specs.Rows.{Row, row_of, row_at, has_folder, folder_of, folder_id, lies_in, IsLive, IsTree, RowsFrom}
 use Rattle.arti_tree.specs.Slots.{at, row_with, live, is_it}
 use Rattle.arti_tree.specs.Kept.{inside}
-use Rattle.arti_tree.proofs.Rises.{same_from_true, same_itself, found_passes, found_live}
-use Rattle.arti_tree.proofs.IdLists.{yes_eq, no_eq}
+use Rattle.arti_tree.proofs.Rises.{found_passes, found_live}
 use Rattle.arti_tree.proofs.Lives.{row_of_live}
 use Rattle.std.specs.Option.{option_map_or, is_none}
 use Rattle.std.proofs.lemmas.List.{length-map}
 use Rattle.arti_tree.proofs.RowLists.{cond_none}
-
-pub and_parts : (a b : Bool) → (a && b) ≡ true → (a ≡ true) × (b ≡ true)
-and_parts true b e = (refl, e)
-and_parts false b e = cc
-
-pub both_true : (a b : Bool) → a ≡ true → b ≡ true → (a && b) ≡ true
-both_true a b e f = ap (λ t. t && b) e ∙ f
+use Rattle.arti_rows.specs.KeyLaws.{same_key-true, same_key-refl}
 
 filter_by : (b : Bool) (x : Row) (l : List Row) → b ≡ false → l ≡ [] → cond b (x ∷ l) l ≡ []
 filter_by b x l e f = ap (λ t. cond t (x ∷ l) l) e ∙ f
@@ -39,10 +32,10 @@ none_found p rows up f = none_found_by (find p rows) (λ r e. f r (found_live p 
 
 -- the folder of what lies in it
 pub lying : (k : Key) (r : Row) → lies_in k r ≡ true → (has_folder r.key ≡ true) × (folder_of r.key ≡ k)
-lying k r e = let parts = and_parts (has_folder r.key) (same_key (folder_of r.key) k) e in (parts.0, same_from_true (folder_of r.key) k parts.1)
+lying k r e = let parts = and_parts (has_folder r.key) (same_key (folder_of r.key) k) e in (parts.0, same_key-true (folder_of r.key) k parts.1)
 
 pub lies : (r : Row) → has_folder r.key ≡ true → lies_in (folder_of r.key) r ≡ true
-lies r e = both_true (has_folder r.key) (same_key (folder_of r.key) (folder_of r.key)) e (same_itself (folder_of r.key))
+lies r e = and_from (has_folder r.key) (same_key (folder_of r.key) (folder_of r.key)) e (same_key-refl (folder_of r.key))
 
 -- nothing lies in a folder that isn't there
 pub none_in : (rows : List Row) (k : Key) → IsTree rows → row_at rows k ≡ None → find (lies_in k) rows ≡ None
@@ -81,7 +74,7 @@ at_by : (rows : List Row) (k : Key) (id : ℕ) (o : Option Row) → RowsFrom 0 r
 at_by rows k id None up is e = cc
 at_by rows k id (Some r) up is e =
     let same : r.id ≡ id = cc in
-    record { row = r; at = is; is = same; live = found_live (λ x. same_key x.key k) 0 rows r up is; same = same_from_true r.key k (found_passes (λ x. same_key x.key k) rows r is) }
+    record { row = r; at = is; is = same; live = found_live (λ x. same_key x.key k) 0 rows r up is; same = same_key-true r.key k (found_passes (λ x. same_key x.key k) rows r is) }
 
 pub at_id : (rows : List Row) (k : Key) (id : ℕ) → RowsFrom 0 rows → Some id ≡ option_map (λ r. r.id) (row_at rows k) → At rows k id
 at_id rows k id up e = at_by rows k id (row_at rows k) up refl e
@@ -125,7 +118,7 @@ module _ (rows : List Row) (r : Row) (tree : IsTree rows) where
   lies_by_id x was = both (lies_in x.key r) (is_it (folder_id rows r.key) x.id)
       (λ e. let l = lying x.key r e in
       let found : row_at rows (folder_of r.key) ≡ Some x = ap (row_at rows) l.1 ∙ tree.differ x was in
-      ap (λ (o : Option ℕ). is_it o x.id) (ap (λ b. cond b (option_map (λ (y : Row). y.id) (row_at rows (folder_of r.key))) None) l.0 ∙ ap (option_map (λ (y : Row). y.id)) found) ∙ yes_eq x.id x.id refl)
+      ap (λ (o : Option ℕ). is_it o x.id) (ap (λ b. cond b (option_map (λ (y : Row). y.id) (row_at rows (folder_of r.key))) None) l.0 ∙ ap (option_map (λ (y : Row). y.id)) found) ∙ eq-eqb x.id x.id refl)
       (λ e. by_folder (has_folder r.key) refl (row_at rows (folder_of r.key)) refl e)
     where
       both : (a b : Bool) → (a ≡ true → b ≡ true) → (b ≡ true → a ≡ true) → a ≡ b
@@ -143,7 +136,7 @@ module _ (rows : List Row) (r : Row) (tree : IsTree rows) where
           let same : y.id ≡ x.id = eqb-true y.id x.id e in
           let y_live : row_of rows y.id ≡ Some y = found_live (λ z. same_key z.key (folder_of r.key)) 0 rows y tree.ascend is in
           let one : Some y ≡ Some x = sym y_live ∙ ap (row_of rows) same ∙ was in
-          let y_key : y.key ≡ folder_of r.key = same_from_true y.key (folder_of r.key) (found_passes (λ z. same_key z.key (folder_of r.key)) rows y is) in
+          let y_key : y.key ≡ folder_of r.key = same_key-true y.key (folder_of r.key) (found_passes (λ z. same_key z.key (folder_of r.key)) rows y is) in
           let x_key : folder_of r.key ≡ x.key = sym y_key ∙ some_key y x one in
           subst (λ (k : Key). lies_in k r ≡ true) x_key (lies r has)
 
@@ -158,7 +151,7 @@ none_passes p [] x none is holds = cc
 none_passes p (y ∷ rows) x none is holds = passes_by (p y) (eqb y.id x.id) p x y (find p rows) (row_of rows x.id) refl none is holds (λ rest more. none_passes p rows x rest more holds)
 
 empty_by : (b : Bool) (x : Row) (o : Option Row) (l : List Row) → eqb (length l) 0 ≡ is_none o → eqb (length (cond b (x ∷ l) l)) 0 ≡ is_none (cond b (Some x) o)
-empty_by true x o l e = no_eq (length (x ∷ l)) 0 (λ h. omega arith)
+empty_by true x o l e = ne_eqb (length (x ∷ l)) 0 (λ h. omega arith)
 empty_by false x o l e = e
 
 -- nothing is listed where nothing is found

@@ -3,23 +3,23 @@ use Rattle.std.proofs.Common.{◌≡◌, ℕ, ◌+◌, ◌<◌, ◌≤◌, ◌^�
 use Rattle.std.specs.Prelude.{◌==◌, All, nat_eq}
 use Rattle.std.specs.List.{filter, find, count_by, insert}
 use Rattle.std.specs.Cmp.Lexicographic.{pointwise}
-use Rattle.std.proofs.lemmas.Bool.{eqb-true}
+use Rattle.std.proofs.lemmas.Bool.{eqb-true, eq-eqb, ne_eqb, false_from_ne_true}
 use Rattle.std.proofs.lemmas.List.Elements.{All-append, All-cons, All-take, All-drop, All-weaker}
 use Rattle.std.proofs.lemmas.List.Edits.{length-insert}
 use Rattle.std.proofs.lemmas.List.Sums.{sum_by-insert}
-use Rattle.arti_rows.specs.Key.{Key, key_cmp}
+use Rattle.arti_rows.specs.Key.{Key, key_cmp, same_key}
 use Rattle.arti_rows.specs.Names.{IsKey}
 use Rattle.arti_tree.specs.declared.slot.Slot.{Slot}
 use Rattle.arti_tree.specs.Ids.{with_id}
-use Rattle.arti_tree.specs.Rows.{Row, ids, row_of, row_at, same_key, has_folder, folder_of, folder_id, lies_in, is_of, with_row, IsLive, HasFolder, IsTree}
+use Rattle.arti_tree.specs.Rows.{Row, ids, row_of, row_at, has_folder, folder_of, folder_id, lies_in, is_of, with_row, IsLive, HasFolder, IsTree}
 use Rattle.arti_tree.specs.Slots.{at, row_with, live, is_it}
 use Rattle.arti_tree.specs.Kept.{inside, Ordered, Kept}
-use Rattle.arti_tree.proofs.IdLists.{yes_eq, no_eq}
 use Rattle.arti_tree.proofs.RowLists.{rows_from_with, find_with_no, find_with_yes, filter_with_no, filter_with_yes, ids_with, put_at}
-use Rattle.arti_tree.proofs.Rises.{same_from_true, same_itself, is_false, found_live, rising_insert}
+use Rattle.arti_tree.proofs.Rises.{found_live, rising_insert}
 use Rattle.arti_tree.proofs.Folders.{filter_none, lying, none_in, lies_by_id}
 use Rattle.arti_tree.proofs.Looks.{no_row, kept_as, live_in}
 use Rattle.arti_tree.proofs.Lives.{row_of_live}
+use Rattle.arti_rows.specs.KeyLaws.{same_key-true, same_key-refl}
 
 pub ids_insert : (rows : List Row) (i : ℕ) (r : Row) → ids (insert rows i r) ≡ insert (ids rows) i r.id
 ids_insert [] zero r = refl
@@ -45,7 +45,7 @@ module _ (rows : List Row) (r : Row) (tree : IsTree rows) (fresh : Fresh rows r)
 
   -- a key that was there still is, and is another
   other_key : (k : Key) (x : Row) → row_at rows k ≡ Some x → same_key r.key k ≡ false
-  other_key k x e = is_false (same_key r.key k) (λ s. let same : r.key ≡ k = same_from_true r.key k s in let none : row_at rows k ≡ None = subst (λ (j : Key). row_at rows j ≡ None) same fresh.no_key in none_some none e)
+  other_key k x e = false_from_ne_true (same_key r.key k) (λ s. let same : r.key ≡ k = same_key-true r.key k s in let none : row_at rows k ≡ None = subst (λ (j : Key). row_at rows j ≡ None) same fresh.no_key in none_some none e)
     where
       none_some : {o : Option Row} → o ≡ None → o ≡ Some x → ⊥
       none_some n s = let e : None ≡ Some x = sym n ∙ s in cc
@@ -68,7 +68,7 @@ module _ (rows : List Row) (r : Row) (tree : IsTree rows) (fresh : Fresh rows r)
       some_same x y e = cc
 
   new_at : row_at more r.key ≡ Some r
-  new_at = find_with_yes (λ y. same_key y.key r.key) r rows (same_itself r.key) fresh.no_key
+  new_at = find_with_yes (λ y. same_key y.key r.key) r rows (same_key-refl r.key) fresh.no_key
 
   still_folder : (k : Key) → HasFolder rows k → HasFolder more k
   still_folder k h has = let f = h has in record { row = f.row; there = still_at (folder_of k) f.row f.there; folder = f.folder }
@@ -87,7 +87,7 @@ module _ (rows : List Row) (r : Row) (tree : IsTree rows) (fresh : Fresh rows r)
 
   -- a live row is another, and stays live
   other_id : (x : Row) → IsLive rows x → eqb r.id x.id ≡ false
-  other_id x was = no_eq r.id x.id (λ e. let none : row_of rows x.id ≡ None = subst (λ (i : ℕ). row_of rows i ≡ None) e fresh.no_id in both_ways none was)
+  other_id x was = ne_eqb r.id x.id (λ e. let none : row_of rows x.id ≡ None = subst (λ (i : ℕ). row_of rows i ≡ None) e fresh.no_id in both_ways none was)
     where
       both_ways : {o : Option Row} → o ≡ None → o ≡ Some x → ⊥
       both_ways n s = let e : None ≡ Some x = sym n ∙ s in cc
@@ -96,7 +96,7 @@ module _ (rows : List Row) (r : Row) (tree : IsTree rows) (fresh : Fresh rows r)
   still_live x was = find_with_no (λ y. eqb y.id x.id) r rows (other_id x was) ∙ was
 
   new_live : IsLive more r
-  new_live = find_with_yes (λ y. eqb y.id r.id) r rows (yes_eq r.id r.id refl) fresh.no_id
+  new_live = find_with_yes (λ y. eqb y.id r.id) r rows (eq-eqb r.id r.id refl) fresh.no_id
 
   -- the order with the new row between the lesser and the greater ones
   module _ (order : List ℕ) (ordered : Ordered rows order) (i : ℕ) (within : i ≤ length ordered.sorted)
@@ -117,7 +117,7 @@ module _ (rows : List Row) (r : Row) (tree : IsTree rows) (fresh : Fresh rows r)
 
   -- nothing lies in the new row
   pub none_in_new : find (lies_in r.key) more ≡ None
-  none_in_new = find_with_no (lies_in r.key) r rows (is_false (lies_in r.key r) (λ e. let l = lying r.key r e in let f = fresh.folder l.0 in none_some (subst (λ (k : Key). row_at rows k ≡ None) (sym l.1) fresh.no_key) f.there)) ∙ none_in rows r.key tree fresh.no_key
+  none_in_new = find_with_no (lies_in r.key) r rows (false_from_ne_true (lies_in r.key r) (λ e. let l = lying r.key r e in let f = fresh.folder l.0 in none_some (subst (λ (k : Key). row_at rows k ≡ None) (sym l.1) fresh.no_key) f.there)) ∙ none_in rows r.key tree fresh.no_key
     where
       none_some : {o : Option Row} {x : Row} → o ≡ None → o ≡ Some x → ⊥
       none_some {o} {x} n s = let e : None ≡ Some x = sym n ∙ s in cc
@@ -145,7 +145,7 @@ module _ (slots more_slots : List (Option Slot)) (s : Slot) (id : ℕ) (all orde
       by_slot (Some t) e = cc
 
   folder_apart : is_it (folder_id rows s.key) id ≡ false
-  folder_apart = is_false (is_it (folder_id rows s.key) id) (λ e. by_folder (has_folder s.key) (row_at rows (folder_of s.key)) refl e)
+  folder_apart = false_from_ne_true (is_it (folder_id rows s.key) id) (λ e. by_folder (has_folder s.key) (row_at rows (folder_of s.key)) refl e)
     where
       by_folder : (h : Bool) (o : Option Row) → row_at rows (folder_of s.key) ≡ o → is_it (cond h (option_map (λ (y : Row). y.id) o) None) id ≡ true → ⊥
       by_folder false o is e = cc
@@ -170,7 +170,7 @@ module _ (slots more_slots : List (Option Slot)) (s : Slot) (id : ℕ) (all orde
         lists_are i ∙ ap (λ t. cond t (with_id id (lists i)) (lists i)) (apart i was) ∙ old
       where
         apart : (j : ℕ) → at slots j ≡ None → is_it (folder_id rows s.key) j ≡ false
-        apart j none = is_false (is_it (folder_id rows s.key) j) (λ e. by_folder (has_folder s.key) (row_at rows (folder_of s.key)) refl e)
+        apart j none = false_from_ne_true (is_it (folder_id rows s.key) j) (λ e. by_folder (has_folder s.key) (row_at rows (folder_of s.key)) refl e)
           where
             by_folder : (h : Bool) (o : Option Row) → row_at rows (folder_of s.key) ≡ o → is_it (cond h (option_map (λ (y : Row). y.id) o) None) j ≡ true → ⊥
             by_folder false o is e = cc

@@ -1,26 +1,13 @@
 -- Lists of ids that ascend.
-use Rattle.std.proofs.Common.{◌≡◌, ◌≢◌, ℕ, ◌+◌, ◌-◌, ◌<◌, ◌≤◌, ◌⊎◌, ⊎_elim, inl, inr, zero, suc, Bool, true, false, cond, eqb, ltb, List, [], ◌∷◌, length, get_or, drop, refl, sym, ap, ◌∙◌, arith}
+use Rattle.std.proofs.Common.{◌≡◌, ◌≢◌, ℕ, ◌+◌, ◌-◌, ◌<◌, ◌≤◌, ◌⊎◌, ⊎_elim, inl, inr, zero, suc, Bool, true, false, cond, List, [], ◌∷◌, length, get_or, refl, sym, ap, ◌∙◌, arith}
 use Rattle.std.specs.Prelude.{nat_lt, not}
 use Rattle.std.specs.List.{insert, remove}
-use Rattle.std.proofs.lemmas.Bool.{ne_eqb, cases_lt, ltb-true, ltb-false}
-use Rattle.std.proofs.lemmas.Bool.Decides.{nat_tests}
+use Rattle.std.proofs.lemmas.Bool.{ne_eqb, cases_lt, ltb-true, ltb-false, lt-ltb, le-ltb, eq-eqb}
 use Rattle.arti_tree.specs.Ids.{AscendFrom, IsGap, Lacks, with_id, without_id}
 
 zero_or : (n : ℕ) → (n ≡ 0) ⊎ (0 < n)
 zero_or zero = inl refl
 zero_or (suc n) = inr (omega arith)
-
-pub yes_lt : (a b : ℕ) → a < b → ltb a b ≡ true
-yes_lt a b h = grind (arith, nat_tests)
-
-pub no_lt : (a b : ℕ) → b ≤ a → ltb a b ≡ false
-no_lt a b h = grind (arith, nat_tests)
-
-pub no_eq : (a b : ℕ) → a ≢ b → eqb a b ≡ false
-no_eq a b h = ne_eqb a b h
-
-pub yes_eq : (a b : ℕ) → a ≡ b → eqb a b ≡ true
-yes_eq a b h = grind (arith, nat_tests)
 
 -- none is below the first
 pub least : (n : ℕ) (xs : List ℕ) → AscendFrom n xs → (i : ℕ) → i < length xs → n ≤ get_or xs i 0
@@ -46,30 +33,30 @@ rises_or_same n (x ∷ xs) up (suc i) (suc j) less below = rises_or_same (x + 1)
 pub insert_at : (id : ℕ) (xs : List ℕ) (i : ℕ) → i ≤ length xs → ((k : ℕ) → k < i → get_or xs k 0 < id) → ((k : ℕ) → i ≤ k → k < length xs → id < get_or xs k 0) → insert xs i id ≡ with_id id xs
 insert_at id [] zero le before behind = refl
 insert_at id [] (suc i) le before behind = absurd (omega arith)
-insert_at id (x ∷ xs) zero le before behind = sym (ap (λ b. cond b (id ∷ x ∷ xs) (x ∷ with_id id xs)) (yes_lt id x (behind 0 (omega arith) (omega arith))))
+insert_at id (x ∷ xs) zero le before behind = sym (ap (λ b. cond b (id ∷ x ∷ xs) (x ∷ with_id id xs)) (lt-ltb id x (behind 0 (omega arith) (omega arith))))
 insert_at id (x ∷ xs) (suc i) le before behind =
     ap (λ l. x ∷ l) (insert_at id xs i (omega arith) (λ k h. before (suc k) (omega arith)) (λ k h g. behind (suc k) (omega arith) (omega arith)))
-    ∙ sym (ap (λ b. cond b (id ∷ x ∷ xs) (x ∷ with_id id xs)) (no_lt id x (let h = before 0 (omega arith) in omega arith)))
+    ∙ sym (ap (λ b. cond b (id ∷ x ∷ xs) (x ∷ with_id id xs)) (le-ltb id x (let h = before 0 (omega arith) in omega arith)))
 
 -- where all are greater, none is left out
 pub keeps : (id n : ℕ) (xs : List ℕ) → AscendFrom n xs → id < n → without_id id xs ≡ xs
 keeps id n [] up less = refl
 keeps id n (x ∷ xs) up less =
-    ap (λ b. cond (not b) (x ∷ without_id id xs) (without_id id xs)) (no_eq x id (λ e. omega (arith, up.0))) ∙ ap (λ l. x ∷ l) (keeps id (x + 1) xs up.1 (omega (arith, up.0)))
+    ap (λ b. cond (not b) (x ∷ without_id id xs) (without_id id xs)) (ne_eqb x id (λ e. omega (arith, up.0))) ∙ ap (λ l. x ∷ l) (keeps id (x + 1) xs up.1 (omega (arith, up.0)))
 
 pub remove_at : (id n : ℕ) (xs : List ℕ) (i : ℕ) → AscendFrom n xs → i < length xs → get_or xs i 0 ≡ id → remove xs i ≡ without_id id xs
 remove_at id n [] i up below is = absurd (omega arith)
 remove_at id n (x ∷ xs) zero up below is =
-    sym (ap (λ b. cond (not b) (x ∷ without_id id xs) (without_id id xs)) (yes_eq x id is) ∙ keeps id (x + 1) xs up.1 (omega (arith, is)))
+    sym (ap (λ b. cond (not b) (x ∷ without_id id xs) (without_id id xs)) (eq-eqb x id is) ∙ keeps id (x + 1) xs up.1 (omega (arith, is)))
 remove_at id n (x ∷ xs) (suc i) up below is =
     ap (λ l. x ∷ l) (remove_at id (x + 1) xs i up.1 (omega arith) is)
-    ∙ sym (ap (λ b. cond (not b) (x ∷ without_id id xs) (without_id id xs)) (no_eq x id (λ e. omega (arith, least (x + 1) xs up.1 i (omega arith), is))))
+    ∙ sym (ap (λ b. cond (not b) (x ∷ without_id id xs) (without_id id xs)) (ne_eqb x id (λ e. omega (arith, least (x + 1) xs up.1 i (omega arith), is))))
 
 -- an id that isn't there leaves the list
 pub lacking : (id : ℕ) (xs : List ℕ) → Lacks xs id → without_id id xs ≡ xs
 lacking id [] lacks = refl
 lacking id (x ∷ xs) lacks =
-    ap (λ b. cond (not b) (x ∷ without_id id xs) (without_id id xs)) (no_eq x id (lacks 0 (omega arith))) ∙ ap (λ l. x ∷ l) (lacking id xs (λ k h. lacks (suc k) (omega arith)))
+    ap (λ b. cond (not b) (x ∷ without_id id xs) (without_id id xs)) (ne_eqb x id (lacks 0 (omega arith))) ∙ ap (λ l. x ∷ l) (lacking id xs (λ k h. lacks (suc k) (omega arith)))
 
 -- a number that the ids below it reach, and that isn't at its own place
 pub free : (xs : List ℕ) (n : ℕ) → AscendFrom 0 xs → n ≤ length xs → (n ≡ 0) ⊎ (get_or xs (n - 1) 0 ≡ n - 1) → (n < length xs → get_or xs n 0 ≢ n) → Lacks xs n
@@ -100,18 +87,13 @@ with_ascends n id (x ∷ xs) le up lacks =
 
 undone_by : (b : Bool) (id x : ℕ) (xs w : List ℕ) → x ≢ id → without_id id xs ≡ xs → without_id id w ≡ xs → without_id id (cond b (id ∷ x ∷ xs) (x ∷ w)) ≡ x ∷ xs
 undone_by true id x xs w ne kept same =
-    ap (λ b. cond (not b) (id ∷ without_id id (x ∷ xs)) (without_id id (x ∷ xs))) (yes_eq id id refl)
-    ∙ ap (λ b. cond (not b) (x ∷ without_id id xs) (without_id id xs)) (no_eq x id ne) ∙ ap (λ l. x ∷ l) kept
-undone_by false id x xs w ne kept same = ap (λ b. cond (not b) (x ∷ without_id id w) (without_id id w)) (no_eq x id ne) ∙ ap (λ l. x ∷ l) same
+    ap (λ b. cond (not b) (id ∷ without_id id (x ∷ xs)) (without_id id (x ∷ xs))) (eq-eqb id id refl)
+    ∙ ap (λ b. cond (not b) (x ∷ without_id id xs) (without_id id xs)) (ne_eqb x id ne) ∙ ap (λ l. x ∷ l) kept
+undone_by false id x xs w ne kept same = ap (λ b. cond (not b) (x ∷ without_id id w) (without_id id w)) (ne_eqb x id ne) ∙ ap (λ l. x ∷ l) same
 
 -- an id that is added and dropped
 pub undone : (id : ℕ) (xs : List ℕ) → Lacks xs id → without_id id (with_id id xs) ≡ xs
-undone id [] lacks = ap (λ b. cond (not b) (id ∷ []) []) (yes_eq id id refl)
+undone id [] lacks = ap (λ b. cond (not b) (id ∷ []) []) (eq-eqb id id refl)
 undone id (x ∷ xs) lacks =
     let rest : Lacks xs id = λ k h. lacks (suc k) (omega arith) in
     undone_by (nat_lt id x) id x xs (with_id id xs) (lacks 0 (omega arith)) (lacking id xs rest) (undone id xs rest)
-
-pub drop_next : (xs : List ℕ) (i : ℕ) → i < length xs → drop i xs ≡ get_or xs i 0 ∷ drop (i + 1) xs
-drop_next [] i below = absurd (omega arith)
-drop_next (x ∷ xs) zero below = refl
-drop_next (x ∷ xs) (suc i) below = drop_next xs i (omega arith) ∙ (let e : suc (i + 1) ≡ suc i + 1 = omega arith in ap (λ n. get_or xs i 0 ∷ drop n (x ∷ xs)) e)

@@ -1,4 +1,3 @@
-mod Cuts
 mod IdLists
 mod Order
 mod RowLists
@@ -11,7 +10,6 @@ mod Growing
 mod ListsOf
 mod Adding
 mod Shrinking
-mod Fronts
 mod Dropping
 mod Beneath
 mod Chaining
@@ -26,4 +24,5 @@ mod Moving
 mod Shifting
 mod Finding
 mod Renaming
+mod Staying
 mod Piecing

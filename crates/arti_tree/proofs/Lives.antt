@@ -4,8 +4,8 @@ use Rattle.std.specs.Prelude.{not}
 use Rattle.arti_tree.specs.declared.slot.Slot.{Slot}
 use Rattle.arti_tree.specs.Rows.{Row, row_of, with_row, without_row, RowsFrom}
 use Rattle.arti_tree.specs.Slots.{at, row_with, live}
-use Rattle.arti_tree.proofs.IdLists.{no_lt, yes_eq, no_eq}
 use Rattle.arti_tree.proofs.RowLists.{lower, none_below, first_row, keeps_rows}
+use Rattle.std.proofs.lemmas.Bool.{le-ltb, eq-eqb, ne_eqb}
 
 pub live_from : (n : ℕ) (slots : List (Option Slot)) → RowsFrom n (live n slots)
 live_from n [] = tt
@@ -21,17 +21,17 @@ live_at n i [] = refl
 live_at n zero (None ∷ slots) = none_below (n + 1) (live (n + 1) slots) (n + 0) (live_from (n + 1) slots) (omega arith)
 live_at n zero (Some s ∷ slots) =
     let e : n ≡ n + 0 = omega arith in
-    ap (λ b. cond b (Some (row_with n s)) (row_of (live (n + 1) slots) (n + 0))) (yes_eq n (n + 0) e) ∙ ap (λ k. Some (row_with k s)) e
+    ap (λ b. cond b (Some (row_with n s)) (row_of (live (n + 1) slots) (n + 0))) (eq-eqb n (n + 0) e) ∙ ap (λ k. Some (row_with k s)) e
 live_at n (suc i) (None ∷ slots) = subst (λ (k : ℕ). row_of (live (n + 1) slots) k ≡ option_map (row_with k) (at slots i)) (shifted n i) (live_at (n + 1) i slots)
 live_at n (suc i) (Some s ∷ slots) =
-    ap (λ b. cond b (Some (row_with n s)) (row_of (live (n + 1) slots) (n + suc i))) (no_eq n (n + suc i) (λ e. omega arith))
+    ap (λ b. cond b (Some (row_with n s)) (row_of (live (n + 1) slots) (n + suc i))) (ne_eqb n (n + suc i) (λ e. omega arith))
     ∙ subst (λ (k : ℕ). row_of (live (n + 1) slots) k ≡ option_map (row_with k) (at slots i)) (shifted n i) (live_at (n + 1) i slots)
 
 pub row_of_live : (id : ℕ) (slots : List (Option Slot)) → row_of (live 0 slots) id ≡ option_map (row_with id) (at slots id)
 row_of_live id slots = let e : 0 + id ≡ id = omega arith in subst (λ (k : ℕ). row_of (live 0 slots) k ≡ option_map (row_with k) (at slots id)) e (live_at 0 id slots)
 
 behind_first : (n m : ℕ) (s t : Slot) (l : List Row) → n < m → with_row (row_with m s) (row_with n t ∷ l) ≡ row_with n t ∷ with_row (row_with m s) l
-behind_first n m s t l less = ap (λ b. cond b (row_with m s ∷ row_with n t ∷ l) (row_with n t ∷ with_row (row_with m s) l)) (no_lt m n (omega arith))
+behind_first n m s t l less = ap (λ b. cond b (row_with m s ∷ row_with n t ∷ l) (row_with n t ∷ with_row (row_with m s) l)) (le-ltb m n (omega arith))
 
 -- an empty slot is filled
 pub live_filled : (n i : ℕ) (slots : List (Option Slot)) (s : Slot) → i < length slots → at slots i ≡ None → live n (set slots i (Some s)) ≡ with_row (row_with (n + i) s) (live n slots)
@@ -60,8 +60,8 @@ pub live_emptied : (n i : ℕ) (slots : List (Option Slot)) → i < length slots
 live_emptied n i [] below = absurd (omega arith)
 live_emptied n zero (None ∷ slots) below = sym (keeps_rows (n + 0) (n + 1) (live (n + 1) slots) (live_from (n + 1) slots) (omega arith))
 live_emptied n zero (Some s ∷ slots) below =
-    sym (ap (λ b. cond (not b) (row_with n s ∷ without_row (n + 0) (live (n + 1) slots)) (without_row (n + 0) (live (n + 1) slots))) (yes_eq n (n + 0) (omega arith)) ∙ keeps_rows (n + 0) (n + 1) (live (n + 1) slots) (live_from (n + 1) slots) (omega arith))
+    sym (ap (λ b. cond (not b) (row_with n s ∷ without_row (n + 0) (live (n + 1) slots)) (without_row (n + 0) (live (n + 1) slots))) (eq-eqb n (n + 0) (omega arith)) ∙ keeps_rows (n + 0) (n + 1) (live (n + 1) slots) (live_from (n + 1) slots) (omega arith))
 live_emptied n (suc i) (None ∷ slots) below = live_emptied (n + 1) i slots (omega arith) ∙ ap (λ k. without_row k (live (n + 1) slots)) (shifted n i)
 live_emptied n (suc i) (Some s ∷ slots) below =
     ap (λ l. row_with n s ∷ l) (live_emptied (n + 1) i slots (omega arith) ∙ ap (λ k. without_row k (live (n + 1) slots)) (shifted n i))
-    ∙ sym (ap (λ b. cond (not b) (row_with n s ∷ without_row (n + suc i) (live (n + 1) slots)) (without_row (n + suc i) (live (n + 1) slots))) (no_eq n (n + suc i) (λ e. omega arith)))
+    ∙ sym (ap (λ b. cond (not b) (row_with n s ∷ without_row (n + suc i) (live (n + 1) slots)) (without_row (n + suc i) (live (n + 1) slots))) (ne_eqb n (n + suc i) (λ e. omega arith)))

@@ -2,22 +2,22 @@
 use Rattle.std.proofs.Common.{◌≡◌, ℕ, ◌+◌, ◌<◌, ◌≤◌, zero, suc, Bool, true, false, List, [], ◌∷◌, length, get_or, Option, Some, None, option_map, refl, sym, ap, ◌∙◌, subst, arith, Less, Equal, Greater}
 use Rattle.std.specs.Prelude.{IsSome, All}
 use Rattle.std.specs.List.{count_by}
-use Rattle.std.specs.Ordering.{is_lt, is_eq}
+use Rattle.std.specs.Ordering.{is_lt}
 use Rattle.std.proofs.lemmas.List.{get_or-map, length-map}
-use Rattle.arti_rows.specs.Key.{Key, key_cmp}
+use Rattle.arti_rows.specs.Key.{Key, key_cmp, same_key}
 use Rattle.std.proofs.Common.{⊎_elim, Bor}
 use Rattle.std.proofs.lemmas.Bool.{cases_lt}
 use Rattle.std.proofs.lemmas.Cmp.{tied_itself}
 use Rattle.std.proofs.lemmas.List.Sums.{sum_by-cons}
 use Rattle.std.specs.Option.{option_map_or}
 use Rattle.arti_tree.specs.declared.slot.Slot.{Slot}
-use Rattle.arti_tree.specs.Rows.{Row, ids, row_of, row_at, same_key, rank_of, IsLive, IsTree}
+use Rattle.arti_tree.specs.Rows.{Row, ids, row_of, row_at, rank_of, IsLive, IsTree}
 use Rattle.arti_tree.specs.Slots.{at, row_with, live, key_at, no_key}
 use Rattle.arti_tree.specs.Kept.{Ordered, Rising}
 use Rattle.arti_tree.specs.Searched.{AllLive, RisingAt}
-use Rattle.arti_tree.proofs.Order.{total, to_greater}
-use Rattle.arti_tree.proofs.Rises.{same_from_tie, none_counted, counted, rising_far}
+use Rattle.arti_tree.proofs.Rises.{none_counted, counted, rising_far}
 use Rattle.arti_tree.proofs.Lives.{row_of_live}
+use Rattle.arti_rows.specs.KeyLaws.{same_key-Less, same_key-Greater, key_cmp-total, key_cmp-Less, key_cmp-Equal}
 
 pub no_row : Row
 no_row = record { id = 0; key = no_key; is_file = false }
@@ -116,7 +116,7 @@ module _ (slots : List (Option Slot)) (order : List ℕ) (tree : IsTree (live 0 
   -- a key that ties with that at a place is found there
   pub found_there : (k : Key) (i : ℕ) → i < length order → key_cmp (key_at slots (get_or order i 0)) k ≡ Equal → row_at rows k ≡ Some (row_there i)
   found_there k i below tie =
-      let same : (row_there i).key ≡ k = same_from_tie (row_there i).key k (ap (λ x. key_cmp x k) (sym (key_there i below)) ∙ tie) in
+      let same : (row_there i).key ≡ k = key_cmp-Equal (row_there i).key k (ap (λ x. key_cmp x k) (sym (key_there i below)) ∙ tie) in
       subst (λ (x : Key). row_at rows x ≡ Some (row_there i)) same (tree.differ (row_there i) (live_there i below))
 
   module _ (k : Key) (i : ℕ) (within : i ≤ length order)
@@ -132,7 +132,7 @@ module _ (slots : List (Option Slot)) (order : List ℕ) (tree : IsTree (live 0 
     pub missing : row_at rows k ≡ None
     missing =
         let p : Row → Bool = λ r. same_key r.key k in
-        none_counted p rows (sym (ordered.same p) ∙ counted p no_row ordered.sorted 0 (omega arith) (λ j h. absurd (omega arith)) (λ j _ less. ⊎_elim (λ l. ap is_eq (before_there j l)) (λ g. ap is_eq (behind_there j g less)) (cases_lt j i)))
+        none_counted p rows (sym (ordered.same p) ∙ counted p no_row ordered.sorted 0 (omega arith) (λ j h. absurd (omega arith)) (λ j _ less. ⊎_elim (λ l. same_key-Less (row_there j).key k (before_there j l)) (λ g. same_key-Greater (row_there j).key k (behind_there j g less)) (cases_lt j i)))
 
   -- the place of a row is its rank
   pub rank_there : (i : ℕ) → i < length order → rank_of rows (row_there i).key ≡ i
@@ -140,7 +140,7 @@ module _ (slots : List (Option Slot)) (order : List ℕ) (tree : IsTree (live 0 
       let p : Row → Bool = λ r. is_lt (key_cmp r.key (row_there i).key) in
       sym (ordered.same p)
       ∙ counted p no_row ordered.sorted i (omega (arith, long)) (λ j less. ap is_lt (rising_far ordered.sorted no_row ordered.rising j i less (within_sorted i below)))
-      (λ j le less. ⊎_elim (λ l. ap is_lt (to_greater (row_there i).key (row_there j).key (rising_far ordered.sorted no_row ordered.rising i j l less))) (λ g. let same : j ≡ i = omega arith in ap (λ n. is_lt (key_cmp (row_there n).key (row_there i).key)) same ∙ ap is_lt (tied_itself total (row_there i).key)) (cases_lt i j))
+      (λ j le less. ⊎_elim (λ l. ap is_lt (key_cmp-Less (row_there i).key (row_there j).key (rising_far ordered.sorted no_row ordered.rising i j l less))) (λ g. let same : j ≡ i = omega arith in ap (λ n. is_lt (key_cmp (row_there n).key (row_there i).key)) same ∙ ap is_lt (tied_itself key_cmp-total (row_there i).key)) (cases_lt i j))
 
 count_all : (rows : List Row) → count_by (λ _. true) rows ≡ length rows
 count_all [] = refl

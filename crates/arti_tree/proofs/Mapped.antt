@@ -2,11 +2,12 @@
 use Rattle.std.proofs.Common.{◌≡◌, ℕ, ◌+◌, ◌≤◌, Bool, true, false, cond, eqb, List, [], ◌∷◌, Option, Some, None, option_map, refl, sym, ap, ◌∙◌, subst, arith}
 use Rattle.std.specs.Prelude.{map}
 use Rattle.std.specs.List.{find}
-use Rattle.arti_rows.specs.Key.{Key}
-use Rattle.arti_tree.specs.Rows.{Row, ids, row_of, row_at, same_key, IsLive, RowsFrom}
+use Rattle.arti_rows.specs.Key.{Key, same_key}
+use Rattle.arti_tree.specs.Rows.{Row, ids, row_of, row_at, IsLive, RowsFrom}
 use Rattle.arti_tree.specs.Renames.{Differ}
-use Rattle.arti_tree.proofs.IdLists.{yes_eq, no_eq}
-use Rattle.arti_tree.proofs.Rises.{found_live, found_least, same_from_true, same_itself}
+use Rattle.arti_tree.proofs.Rises.{found_live, found_least}
+use Rattle.std.proofs.lemmas.Bool.{eq-eqb, ne_eqb}
+use Rattle.arti_rows.specs.KeyLaws.{same_key-true, same_key-refl}
 
 pub some_rows : (x y : Row) → Some x ≡ Some y → x ≡ y
 some_rows x y e = cc
@@ -26,12 +27,12 @@ both_ways false true f g = g refl
 both_ways false false f g = refl
 
 pub head_live : (x : Row) (rows : List Row) → IsLive (x ∷ rows) x
-head_live x rows = ap (λ b. cond b (Some x) (row_of rows x.id)) (yes_eq x.id x.id refl)
+head_live x rows = ap (λ b. cond b (Some x) (row_of rows x.id)) (eq-eqb x.id x.id refl)
 
 pub tail_live : (n : ℕ) (y x : Row) (rows : List Row) → RowsFrom n (y ∷ rows) → IsLive rows x → IsLive (y ∷ rows) x
 tail_live n y x rows up live =
     let above : y.id + 1 ≤ x.id = found_least (λ r. eqb r.id x.id) (y.id + 1) rows x up.1 live in
-    ap (λ b. cond b (Some y) (row_of rows x.id)) (no_eq y.id x.id (λ e. omega arith)) ∙ live
+    ap (λ b. cond b (Some y) (row_of rows x.id)) (ne_eqb y.id x.id (λ e. omega arith)) ∙ live
 
 -- tests that agree on live rows find the same
 pub find_same : (p q : Row → Bool) (n : ℕ) (rows : List Row) → RowsFrom n rows → ((x : Row) → IsLive rows x → p x ≡ q x) → find p rows ≡ find q rows
@@ -90,8 +91,8 @@ module _ (g : Row → Row) (keeps : (r : Row) → (g r).id ≡ r.id) where
     module _ (differ : Differ rows) (apart : (x y : Row) → IsLive rows x → IsLive rows y → (g x).key ≡ (g y).key → x ≡ y) where
       pub same_new : (x y : Row) → IsLive rows x → IsLive rows y → same_key (g x).key (g y).key ≡ same_key x.key y.key
       same_new x y is to = both_ways (same_key (g x).key (g y).key) (same_key x.key y.key)
-          (λ e. ap (λ (r : Row). same_key r.key y.key) (apart x y is to (same_from_true (g x).key (g y).key e)) ∙ same_itself y.key)
-          (λ e. ap (λ (r : Row). same_key (g r).key (g y).key) (one_key rows x y differ is to (same_from_true x.key y.key e)) ∙ same_itself (g y).key)
+          (λ e. ap (λ (r : Row). same_key r.key y.key) (apart x y is to (same_key-true (g x).key (g y).key e)) ∙ same_key-refl y.key)
+          (λ e. ap (λ (r : Row). same_key (g r).key (g y).key) (one_key rows x y differ is to (same_key-true x.key y.key e)) ∙ same_key-refl (g y).key)
 
       pub at_new : (x : Row) → IsLive rows x → row_at (map g rows) (g x).key ≡ Some (g x)
       at_new x is = at_map x.key (g x).key (λ y to. same_new y x to is) ∙ ap (option_map g) (differ x is)

@@ -3,20 +3,20 @@ use Rattle.std.proofs.Common.{◌≡◌, ℕ, ◌+◌, ◌<◌, ◌≤◌, zero,
 use Rattle.std.specs.Prelude.{◌||◌, ◌&&◌, ◌==◌, not, nat_lt}
 use Rattle.std.specs.Option.{option_map_or}
 use Rattle.std.specs.List.{filter}
-use Rattle.std.proofs.lemmas.Bool.{eqb-true, eqb-false}
+use Rattle.std.proofs.lemmas.Bool.{eqb-true, eqb-false, eq-eqb, ne_eqb}
 use Rattle.arti_tree.specs.Ids.{AscendFrom, Lacks, with_id, without_id}
 use Rattle.arti_tree.specs.Renames.{has, Once}
 use Rattle.arti_tree.specs.Shifts.{with_ids, without_ids, AreNew}
 use Rattle.arti_tree.specs.Rows.{Row, ids, row_of, RowsFrom}
-use Rattle.arti_tree.proofs.IdLists.{yes_eq, no_eq, with_ascends}
+use Rattle.arti_tree.proofs.IdLists.{with_ascends}
 use Rattle.arti_tree.proofs.RowLists.{lower_ids, none_below}
 
 pub below_first : (n : ℕ) (xs : List ℕ) (i : ℕ) → AscendFrom n xs → i < n → has xs i ≡ false
 below_first n [] i up less = refl
-below_first n (x ∷ xs) i up less = ap (λ b. b || has xs i) (no_eq x i (λ e. omega (arith, up.0))) ∙ below_first (x + 1) xs i up.1 (omega (arith, up.0))
+below_first n (x ∷ xs) i up less = ap (λ b. b || has xs i) (ne_eqb x i (λ e. omega (arith, up.0))) ∙ below_first (x + 1) xs i up.1 (omega (arith, up.0))
 
 pub first_has : (x : ℕ) (xs : List ℕ) → has (x ∷ xs) x ≡ true
-first_has x xs = ap (λ b. b || has xs x) (yes_eq x x refl)
+first_has x xs = ap (λ b. b || has xs x) (eq-eqb x x refl)
 
 no_true : (b : Bool) → b ≡ false → b ≡ true → ⊥
 no_true b e f = let no : false ≡ true = sym e ∙ f in cc
@@ -24,7 +24,7 @@ no_true b e f = let no : false ≡ true = sym e ∙ f in cc
 not_less : (n m x y : ℕ) (xs ys : List ℕ) → AscendFrom (y + 1) ys → ((i : ℕ) → has (x ∷ xs) i ≡ has (y ∷ ys) i) → x < y → ⊥
 not_less n m x y xs ys up same less =
     let there : has (y ∷ ys) x ≡ true = sym (same x) ∙ first_has x xs in
-    let absent : has (y ∷ ys) x ≡ false = ap (λ b. b || has ys x) (no_eq y x (λ e. omega arith)) ∙ below_first (y + 1) ys x up (omega arith) in
+    let absent : has (y ∷ ys) x ≡ false = ap (λ b. b || has ys x) (ne_eqb y x (λ e. omega arith)) ∙ below_first (y + 1) ys x up (omega arith) in
     no_true (has (y ∷ ys) x) absent there
 
 rest_by : (b : Bool) (x i : ℕ) (xs ys : List ℕ) → eqb x i ≡ b → AscendFrom (x + 1) xs → AscendFrom (x + 1) ys → has (x ∷ xs) i ≡ has (x ∷ ys) i → has xs i ≡ has ys i
@@ -151,7 +151,7 @@ are_new [] xs once none = tt
 are_new (id ∷ ids) xs once none = (
   lacks_from xs id (none id (first_has id ids)),
   are_new ids (with_id id xs) once.1 (λ i there.
-      has_with id xs i ∙ ap (λ b. b || has xs i) (no_eq id i (λ e. false_true (has ids id) once.0 (subst (λ (k : ℕ). has ids k ≡ true) (sym e) there))) ∙ none i (later (id == i) (has ids i) there)),
+      has_with id xs i ∙ ap (λ b. b || has xs i) (ne_eqb id i (λ e. false_true (has ids id) once.0 (subst (λ (k : ℕ). has ids k ≡ true) (sym e) there))) ∙ none i (later (id == i) (has ids i) there)),
 )
 
 -- the ids of the rows that pass

@@ -2,16 +2,18 @@
 use Rattle.std.proofs.Common.{◌≡◌, ◌≢◌, ℕ, ◌+◌, ◌<◌, ◌^◌, ◌⊎◌, ⊎_elim, inl, inr, Bool, true, false, cond, List, ◌∷◌, ◌++◌, length, Option, Some, None, refl, sym, ap, ◌∙◌, subst, arith}
 use Rattle.std.specs.Prelude.{map}
 use Rattle.std.proofs.lemmas.List.{length-map, append_cancel_left}
-use Rattle.arti_rows.specs.Key.{Key, key_of, whole_of}
+use Rattle.arti_rows.specs.Key.{Key, key_of, whole_of, same_key}
 use Rattle.arti_rows.specs.Names.{IsKey}
-use Rattle.arti_tree.specs.Rows.{Row, row_at, same_key, has_folder, folder_of, lies_in, IsFolder, HasFolder, IsLive, IsTree}
+use Rattle.arti_tree.specs.Rows.{Row, row_at, has_folder, folder_of, lies_in, IsFolder, HasFolder, IsLive, IsTree}
 use Rattle.arti_tree.specs.Renames.{is_within, moved, moved_whole, moved_row, StayKeys}
-use Rattle.arti_tree.proofs.Rises.{found_live, found_passes, same_from_true, same_itself, is_false}
+use Rattle.arti_tree.proofs.Rises.{found_live, found_passes}
 use Rattle.arti_tree.proofs.Folders.{none_in, none_passes}
 use Rattle.arti_tree.proofs.Above.{folder_whole, folder_key}
-use Rattle.arti_tree.proofs.Beneath.{eq_or, beneath_in}
+use Rattle.arti_tree.proofs.Beneath.{beneath_in}
 use Rattle.arti_tree.proofs.Under.{Under, Path, Within, within_cases, within_is, within_itself, under_within, under_beneath, whole_moved, whole_made, key_made, moved_top, moved_parts, path_under, within_folder, folder_in}
 use Rattle.arti_tree.proofs.Mapped.{rows_from_map, was, at_new, differ_new, same_new, one_key}
+use Rattle.arti_rows.specs.KeyLaws.{same_key-true, same_key-refl}
+use Rattle.std.proofs.lemmas.Bool.{false_from_ne_true, cases_Bool}
 
 none_some : {o : Option Row} {x : Row} → o ≡ None → o ≡ Some x → ⊥
 none_some {o} {x} n s = let e : None ≡ Some x = sym n ∙ s in cc
@@ -88,12 +90,12 @@ module _ (rows : List Row) (from to : Key) (tree : IsTree rows) (from_is : IsKey
       (λ (e : is_within from x.key ≡ true). ⊎_elim
       (λ (f : is_within from y.key ≡ true). both_within x y x_live y_live e f same)
       (λ (f : is_within from y.key ≡ false). absurd (new_absent y x y_live x_live e (same ∙ moved_no from to y.key f)))
-      (eq_or (is_within from y.key)))
+      (cases_Bool (is_within from y.key)))
       (λ (e : is_within from x.key ≡ false). ⊎_elim
       (λ (f : is_within from y.key ≡ true). absurd (new_absent x y x_live y_live f (sym same ∙ moved_no from to x.key e)))
       (λ (f : is_within from y.key ≡ false). sym (moved_no from to x.key e) ∙ same ∙ moved_no from to y.key f)
-      (eq_or (is_within from y.key)))
-      (eq_or (is_within from x.key)))
+      (cases_Bool (is_within from y.key)))
+      (cases_Bool (is_within from x.key)))
 
   pub same_keys : (x y : Row) → IsLive rows x → IsLive rows y → same_key (g x).key (g y).key ≡ same_key x.key y.key
   same_keys x y x_live y_live = same_new g (keeps_id from to) rows tree.ascend tree.differ apart x y x_live y_live
@@ -105,7 +107,7 @@ module _ (rows : List Row) (from to : Key) (tree : IsTree rows) (from_is : IsKey
   folder_row k f = record {
     row = f.row;
     live = found_live (λ y. same_key y.key (folder_of k)) 0 rows f.row tree.ascend f.there;
-    key = same_from_true f.row.key (folder_of k) (found_passes (λ y. same_key y.key (folder_of k)) rows f.row f.there);
+    key = same_key-true f.row.key (folder_of k) (found_passes (λ y. same_key y.key (folder_of k)) rows f.row f.there);
     folder = f.folder;
   }
 
@@ -139,9 +141,9 @@ module _ (rows : List Row) (from to : Key) (tree : IsTree rows) (from_is : IsKey
       ⊎_elim
       (λ (e : is_within from x.key ≡ true). ⊎_elim (λ (top : x.key ≡ from). absurd (ne top)) (λ (u : Under from x.key). lying_beneath x live e u f) (within_cases from x.key (tree.keys x live) e))
       (λ (e : is_within from x.key ≡ false).
-      let f_out : is_within from f.row.key ≡ false = is_false (is_within from f.row.key) (λ in_it. false_true (is_within from x.key) e (up_within x f.row live f.live has f.key in_it)) in
+      let f_out : is_within from f.row.key ≡ false = false_from_ne_true (is_within from f.row.key) (λ in_it. false_true (is_within from x.key) e (up_within x f.row live f.live has f.key in_it)) in
       let l : Lying rows from to x = record { folder = f; has = ap has_folder (moved_no from to x.key e) ∙ has; after = ap folder_of (moved_no from to x.key e) ∙ sym f.key ∙ sym (moved_no from to f.row.key f_out) } in l)
-      (eq_or (is_within from x.key))
+      (cases_Bool (is_within from x.key))
 
   module _ (folder : HasFolder rows to) (apart_to : is_within from to ≡ false) where
     -- the folder of the new key isn't moved
@@ -151,7 +153,7 @@ module _ (rows : List Row) (from to : Key) (tree : IsTree rows) (from_is : IsKey
     pub to_stays : (has : has_folder to ≡ true) → (g (to_folder has).row).key ≡ folder_of to
     to_stays has =
         let f = to_folder has in
-        let out : is_within from f.row.key ≡ false = is_false (is_within from f.row.key) (λ e. false_true (is_within from to) apart_to
+        let out : is_within from f.row.key ≡ false = false_from_ne_true (is_within from f.row.key) (λ e. false_true (is_within from to) apart_to
         (under_within from to from_is (within_folder from to from_is to_is has (ap (is_within from) (sym f.key) ∙ e) (folder_key to to_is has)))) in
         moved_no from to f.row.key out ∙ f.key
 
@@ -170,7 +172,7 @@ module _ (rows : List Row) (from to : Key) (tree : IsTree rows) (from_is : IsKey
         (key_cases x.key from)
       where
         key_cases : (a b : Key) → (a ≡ b) ⊎ (a ≢ b)
-        key_cases a b = ⊎_elim (λ (e : same_key a b ≡ true). inl (same_from_true a b e)) (λ (e : same_key a b ≡ false). inr (λ same. false_true (same_key a b) e (ap (λ (k : Key). same_key k b) same ∙ same_itself b))) (eq_or (same_key a b))
+        key_cases a b = ⊎_elim (λ (e : same_key a b ≡ true). inl (same_key-true a b e)) (λ (e : same_key a b ≡ false). inr (λ same. false_true (same_key a b) e (ap (λ (k : Key). same_key k b) same ∙ same_key-refl b))) (cases_Bool (same_key a b))
 
         by_has : (x : Row) → IsLive rows x → x.key ≢ from → (b : Bool) → has_folder x.key ≡ b → has_folder (g x).key ≡ true → IsFolder (map g rows) (folder_of (g x).key)
         by_has x live ne true was has =
@@ -184,13 +186,13 @@ module _ (rows : List Row) (from to : Key) (tree : IsTree rows) (from_is : IsKey
             rooted x live ne was has = ⊎_elim
                 (λ (e : is_within from x.key ≡ true). ⊎_elim (λ (top : x.key ≡ from). ne top) (λ (u : Under from x.key). let p = path_under from x.key (tree.keys x live) u in false_true (has_folder x.key) was p.has) (within_cases from x.key (tree.keys x live) e))
                 (λ (e : is_within from x.key ≡ false). false_true (has_folder x.key) was (sym (ap has_folder (moved_no from to x.key e)) ∙ has))
-                (eq_or (is_within from x.key))
+                (cases_Bool (is_within from x.key))
 
     new_key : (x : Row) → IsLive rows x → IsKey (g x).key
     new_key x live = ⊎_elim
         (λ (e : is_within from x.key ≡ true). subst IsKey (sym (moved_yes from to x.key e)) (key_made to.repo (moved_whole from to x.key) (stay x live e)))
         (λ (e : is_within from x.key ≡ false). subst IsKey (sym (moved_no from to x.key e)) (tree.keys x live))
-        (eq_or (is_within from x.key))
+        (cases_Bool (is_within from x.key))
 
     pub tree_moved : IsTree (map g rows)
     tree_moved = record {

@@ -4,23 +4,21 @@ use Rattle.std.specs.Prelude.{map, ◌||◌, ◌&&◌, not, nat_eq, IsSome}
 use Rattle.std.specs.Option.{option_map_or}
 use Rattle.std.specs.List.{filter}
 use Rattle.std.specs.Cmp.Lexicographic.{pointwise}
-use Rattle.std.proofs.lemmas.Bool.{eqb-true, eqb-false}
-use Rattle.arti_rows.specs.Key.{Key}
+use Rattle.std.proofs.lemmas.Bool.{eqb-true, eqb-false, ne_eqb, false_from_ne_true, cases_Bool}
+use Rattle.arti_rows.specs.Key.{Key, same_key}
 use Rattle.arti_rows.specs.Names.{IsKey}
 use Rattle.arti_tree.specs.declared.slot.Slot.{Slot}
 use Rattle.arti_tree.specs.Ids.{AscendFrom}
-use Rattle.arti_tree.specs.Rows.{Row, ids, row_of, row_at, same_key, has_folder, folder_of, folder_id, lies_in, is_of, HasFolder, IsLive, IsTree, RowsFrom}
+use Rattle.arti_tree.specs.Rows.{Row, ids, row_of, row_at, has_folder, folder_of, folder_id, lies_in, is_of, HasFolder, IsLive, IsTree, RowsFrom}
 use Rattle.arti_tree.specs.Slots.{at, row_with, live, is_it, no_key}
 use Rattle.arti_tree.specs.Kept.{inside, Ordered, Kept}
 use Rattle.arti_tree.specs.Renames.{is_within, moved, moved_row, has, AreWithin, key_for, rekeyed_all, StayKeys, CanRekey}
 use Rattle.arti_tree.specs.Shifts.{shifted, AreNew}
-use Rattle.arti_tree.proofs.IdLists.{no_eq}
 use Rattle.arti_tree.proofs.RowLists.{filtered_ascend}
-use Rattle.arti_tree.proofs.Rises.{found_live, found_passes, is_false}
+use Rattle.arti_tree.proofs.Rises.{found_live, found_passes}
 use Rattle.arti_tree.proofs.Folders.{lies_by_id}
 use Rattle.arti_tree.proofs.Lives.{row_of_live}
 use Rattle.arti_tree.proofs.Looks.{live_in}
-use Rattle.arti_tree.proofs.Beneath.{eq_or}
 use Rattle.arti_tree.proofs.Under.{path_under, within_cases, within_is}
 use Rattle.arti_tree.proofs.Members.{same_members, has_with_ids, has_without_ids, without_ids_ascend, with_ids_ascend, lacks_from, are_new, has_rows}
 use Rattle.arti_tree.proofs.Mapped.{ids_map, row_of_map, map_same, one_id, one_key}
@@ -121,7 +119,7 @@ module _ (rows : List Row) (from to : Key) (tree : IsTree rows) (from_is : IsKey
 
   -- no folder is the row of an id that isn't live
   pub folder_apart : (k : Key) (i : ℕ) → row_of rows i ≡ None → is_it (folder_id rows k) i ≡ false
-  folder_apart k i none = is_false (is_it (folder_id rows k) i) (λ e. by_folder (has_folder k) (row_at rows (folder_of k)) refl e)
+  folder_apart k i none = false_from_ne_true (is_it (folder_id rows k) i) (λ e. by_folder (has_folder k) (row_at rows (folder_of k)) refl e)
     where
       by_folder : (h : Bool) (o : Option Row) → row_at rows (folder_of k) ≡ o → is_it (cond h (option_map (λ (y : Row). y.id) o) None) i ≡ true → ⊥
       by_folder false o is e = cc
@@ -135,7 +133,7 @@ module _ (rows : List Row) (from to : Key) (tree : IsTree rows) (from_is : IsKey
   lies_other x y x_live y_live ne = by (has_folder y.key) refl
     where
       rooted : has_folder y.key ≡ false → (moved_row from to y).key ≡ y.key
-      rooted e = moved_no from to y.key (is_false (is_within from y.key) (λ in_it. ⊎_elim ne (λ u. false_true (has_folder y.key) e (path_under from y.key (tree.keys y y_live) u).has) (within_cases from y.key (tree.keys y y_live) in_it)))
+      rooted e = moved_no from to y.key (false_from_ne_true (is_within from y.key) (λ in_it. ⊎_elim ne (λ u. false_true (has_folder y.key) e (path_under from y.key (tree.keys y y_live) u).has) (within_cases from y.key (tree.keys y y_live) in_it)))
 
       by : (b : Bool) → has_folder y.key ≡ b → lies_in (moved_row from to x).key (moved_row from to y) ≡ lies_in x.key y
       by true e =
@@ -169,7 +167,7 @@ module _ (rows : List Row) (from to : Key) (tree : IsTree rows) (from_is : IsKey
 
     list_by : (x : Row) (i : ℕ) → IsLive rows x → x.id ≡ i → (j : ℕ) (o : Option Row) → row_of rows j ≡ o
         → form (is_it (folder_id rows from) i) (is_it (folder_id rows to) i) (has (r.id ∷ []) j) (option_map_or (lies_in x.key) o false) ≡ option_map_or (λ y. lies_in (moved_row from to x).key (moved_row from to y)) o false
-    list_by x i x_live x_id j None is = form_out (is_it (folder_id rows from) i) (is_it (folder_id rows to) i) (has (r.id ∷ []) j) false (single r.id j ∙ no_eq r.id j (λ e. none_some is (sym (ap (row_of rows) e) ∙ r_live)))
+    list_by x i x_live x_id j None is = form_out (is_it (folder_id rows from) i) (is_it (folder_id rows to) i) (has (r.id ∷ []) j) false (single r.id j ∙ ne_eqb r.id j (λ e. none_some is (sym (ap (row_of rows) e) ∙ r_live)))
     list_by x i x_live x_id j (Some y) is =
         let y_live : IsLive rows y = found_live (λ z. eqb z.id j) 0 rows y tree.ascend is in
         let y_id : y.id ≡ j = eqb-true y.id j (found_passes (λ z. eqb z.id j) rows y is) in
@@ -182,7 +180,7 @@ module _ (rows : List Row) (from to : Key) (tree : IsTree rows) (from_is : IsKey
         (λ (e : eqb r.id j ≡ false).
         let ne : y.key ≢ from = λ k. eqb-false r.id j e (ap (λ (z : Row). z.id) (one_key rows r y tree.differ r_live y_live (r_key ∙ sym k)) ∙ y_id) in
         form_out (is_it (folder_id rows from) i) (is_it (folder_id rows to) i) (has (r.id ∷ []) j) (lies_in x.key y) (single r.id j ∙ e) ∙ sym (lies_other x y x_live y_live ne))
-        (eq_or (eqb r.id j))
+        (cases_Bool (eqb r.id j))
 
     map_or : (f : Row → Bool) (o : Option Row) → option_map_or f (option_map (moved_row from to) o) false ≡ option_map_or (λ y. f (moved_row from to y)) o false
     map_or f None = refl
@@ -217,7 +215,7 @@ module _ (rows : List Row) (from to : Key) (tree : IsTree rows) (from_is : IsKey
         ∙ sym (ap (λ (k : Key). pointwise nat_eq q k.repo) (moved_yes from to y.key e)))
         (λ (e : is_within from y.key ≡ false).
         form_out (pointwise nat_eq q from.repo) (pointwise nat_eq q to.repo) (is_within from y.key) (is_of q y) e ∙ sym (ap (λ (k : Key). pointwise nat_eq q k.repo) (moved_no from to y.key e)))
-        (eq_or (is_within from y.key))
+        (cases_Bool (is_within from y.key))
 
     pub repo_new : (q l : List ℕ) → l ≡ ids (filter (is_of q) rows) → pointwise nat_eq q from.repo ≡ false → AreNew l w
     repo_new q l l_is e = are_new w l is_w.once (λ j there.

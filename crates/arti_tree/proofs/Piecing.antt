@@ -1,10 +1,10 @@
 -- Lists of lists, as one list.
-use Rattle.std.proofs.Common.{◌≡◌, ℕ, zero, suc, ◌+◌, ◌-◌, ◌*◌, ◌<◌, ◌≤◌, max, List, [], ◌∷◌, ◌++◌, length, get_or, set, take, drop, map, Vec, Global, refl, sym, ap, ◌∙◌, zero-add, arith, add-one, subst, ◌⊎◌, ⊎_elim, inl, inr}
+use Rattle.std.proofs.Common.{◌≡◌, ℕ, zero, suc, ◌+◌, ◌-◌, ◌*◌, ◌<◌, ◌≤◌, List, [], ◌∷◌, ◌++◌, length, get_or, set, take, drop, Vec, Global, refl, sym, ap, ◌∙◌, zero-add, arith, add-one, subst, ◌⊎◌, ⊎_elim, inl, inr}
 use Rattle.std.specs.List.{All, concat, insert, remove}
-use Rattle.std.proofs.lemmas.List.{length-append, append_assoc, append-nil, take-append-drop, length-take-le, length-drop, get_or_append_left, get_or-append-add, map-set, get_or-map, take_all, drop_more, length-map}
+use Rattle.std.proofs.lemmas.List.{length-append, append_assoc, take-append-drop, length-take-le, length-drop, get_or_append_left, get_or-append-add, map-set, get_or-map, take_all, drop_more, length-map}
 use Rattle.std.proofs.lemmas.Bool.{cases_lt}
 use Rattle.std.proofs.lemmas.List.Edits.{length-insert, insert-append_left, insert-append_right, remove-append_left, remove-append_right}
-use Rattle.std.proofs.lemmas.List.Elements.{All-append, All-take, All-drop, All-cons, All-set}
+use Rattle.std.proofs.lemmas.List.Elements.{All-append, All-take, All-drop, All-cons}
 use Rattle.std.proofs.Math.Nat.{le-max_left, le-max_right, max-le}
 use Rattle.arti_tree.specs.Pieces.{lists, offset, over, room_for, halved, joined, with_first, IsWide, HasStarts}
 

@@ -2,27 +2,25 @@
 use Rattle.std.proofs.Common.{◌≡◌, ◌≢◌, ℕ, ◌+◌, ◌<◌, ◌≤◌, ◌⊎◌, ⊎_elim, inl, inr, zero, suc, Bool, true, false, cond, eqb, List, [], ◌∷◌, length, get_or, set, take, drop, Option, Some, None, option_map, refl, sym, ap, ◌∙◌, subst, arith, Less, Equal, Greater}
 use Rattle.std.specs.Prelude.{map, ◌==◌, ◌||◌, All, IsSome}
 use Rattle.std.specs.List.{count_by, insert, remove}
-use Rattle.std.specs.Ordering.{is_eq}
-use Rattle.std.proofs.lemmas.Bool.{eqb-true, eqb-false, cases_lt}
+use Rattle.std.proofs.lemmas.Bool.{eqb-true, eqb-false, cases_lt, eq-eqb, ne_eqb, cases_Bool}
 use Rattle.std.proofs.lemmas.List.{length-map, length-drop}
 use Rattle.std.proofs.lemmas.List.Elements.{All-append, All-cons, All-take, All-drop}
 use Rattle.std.proofs.lemmas.List.Sums.{sum_by-insert, sum_by-remove, sum_by-cons}
-use Rattle.arti_rows.specs.Key.{Key, key_cmp}
+use Rattle.arti_rows.specs.Key.{Key, key_cmp, same_key}
 use Rattle.arti_tree.specs.declared.slot.Slot.{Slot}
-use Rattle.arti_tree.specs.Rows.{Row, ids, row_of, row_at, same_key, IsLive, RowsFrom}
+use Rattle.arti_tree.specs.Rows.{Row, ids, row_of, row_at, IsLive, RowsFrom}
 use Rattle.arti_tree.specs.Slots.{at, row_with, live, key_at}
 use Rattle.arti_tree.specs.Kept.{Ordered, Rising}
 use Rattle.arti_tree.specs.Renames.{has, Once, Differ, rekeyed_row, rekeyed, rekeyed_all, CanRekey, Rekeying}
-use Rattle.arti_tree.proofs.IdLists.{yes_eq, no_eq, drop_next}
+use Rattle.std.proofs.lemmas.List.{drop_more}
 use Rattle.arti_tree.proofs.Lives.{live_from, row_of_live}
-use Rattle.arti_tree.proofs.Order.{to_less}
-use Rattle.arti_tree.proofs.Rises.{found_live, found_passes, others_differ, rising_insert, rising_remove, same_from_true, same_from_tie, none_counted, counted}
+use Rattle.arti_tree.proofs.Rises.{found_live, found_passes, others_differ, rising_insert, rising_remove, none_counted, counted}
 use Rattle.arti_tree.proofs.Looks.{no_row, key_in, before_in, behind_in}
 use Rattle.arti_tree.proofs.Growing.{ids_insert}
 use Rattle.arti_tree.proofs.Shrinking.{ids_remove}
-use Rattle.arti_tree.proofs.Beneath.{eq_or}
 use Rattle.arti_tree.proofs.Members.{first_has}
 use Rattle.arti_tree.proofs.Mapped.{row_of_map, live_map, rows_from_map, differ_new, one_id, one_key, was, some_rows}
+use Rattle.arti_rows.specs.KeyLaws.{same_key-Less, same_key-Greater, key_cmp-Greater, same_key-true, key_cmp-Equal}
 
 row_id_by : (b : Bool) (id : ℕ) (key : Key) (r : Row) → (cond b (record { id = r.id; key = key; is_file = r.is_file }) r).id ≡ r.id
 row_id_by true id key r = refl
@@ -32,10 +30,10 @@ pub keeps_id : (id : ℕ) (key : Key) (r : Row) → (rekeyed_row id key r).id �
 keeps_id id key r = row_id_by (eqb r.id id) id key r
 
 pub rekeyed_other : (id : ℕ) (key : Key) (r : Row) → r.id ≢ id → rekeyed_row id key r ≡ r
-rekeyed_other id key r ne = ap (λ b. cond b (record { id = r.id; key = key; is_file = r.is_file }) r) (no_eq r.id id ne)
+rekeyed_other id key r ne = ap (λ b. cond b (record { id = r.id; key = key; is_file = r.is_file }) r) (ne_eqb r.id id ne)
 
 pub rekeyed_it : (id : ℕ) (key : Key) (r : Row) → r.id ≡ id → rekeyed_row id key r ≡ record { id = r.id; key = key; is_file = r.is_file }
-rekeyed_it id key r e = ap (λ b. cond b (record { id = r.id; key = key; is_file = r.is_file }) r) (yes_eq r.id id e)
+rekeyed_it id key r e = ap (λ b. cond b (record { id = r.id; key = key; is_file = r.is_file }) r) (eq-eqb r.id id e)
 
 key_by : (b : Bool) (key : Key) (r : Row) → b ≡ true → (cond b (record { id = r.id; key = key; is_file = r.is_file }) r).key ≡ key
 key_by b key r e = ap (λ t. (cond t (record { id = r.id; key = key; is_file = r.is_file }) r).key) e
@@ -47,7 +45,7 @@ absent_key : (rows : List Row) (key : Key) (x : Row) → Differ rows → row_at 
 absent_key rows key x differ none is e = none_some none (ap (row_at rows) (sym e) ∙ differ x is)
 
 id_cases : (a b : ℕ) → (a ≡ b) ⊎ (a ≢ b)
-id_cases a b = ⊎_elim (λ (e : eqb a b ≡ true). inl (eqb-true a b e)) (λ (e : eqb a b ≡ false). inr (eqb-false a b e)) (eq_or (eqb a b))
+id_cases a b = ⊎_elim (λ (e : eqb a b ≡ true). inl (eqb-true a b e)) (λ (e : eqb a b ≡ false). inr (eqb-false a b e)) (cases_Bool (eqb a b))
 
 -- the rows still differ
 pub differ_rekeyed : (rows : List Row) (id : ℕ) (key : Key) → RowsFrom 0 rows → Differ rows → row_at rows key ≡ None → Differ (rekeyed id key rows)
@@ -81,14 +79,14 @@ counts_by test id n key x r rows up found which rest =
     let two : count_by test (x ∷ rows) ≡ weight test x + count_by test rows = sum_by-cons (weight test) x rows in
     ⊎_elim
     (λ (e : x.id ≡ id).
-    let same : x ≡ r = some_rows x r (sym (ap (λ b. cond b (Some x) (row_of rows id)) (yes_eq x.id id e)) ∙ found) in
+    let same : x ≡ r = some_rows x r (sym (ap (λ b. cond b (Some x) (row_of rows id)) (eq-eqb x.id id e)) ∙ found) in
     let kept : rekeyed id key rows ≡ rows = keeps_all id (x.id + 1) key rows up.1 (omega arith) in
     let a : weight test (rekeyed_row id key x) ≡ weight test (rekeyed_row id key r) = ap (λ (y : Row). weight test (rekeyed_row id key y)) same in
     let b : weight test x ≡ weight test r = ap (weight test) same in
     let c : count_by test (rekeyed id key rows) ≡ count_by test rows = ap (count_by test) kept in
     sum_same (count_by test (rekeyed id key (x ∷ rows))) (weight test (rekeyed_row id key x)) (count_by test (rekeyed id key rows)) (count_by test (x ∷ rows)) (weight test x) (count_by test rows) (weight test r) (weight test (rekeyed_row id key r)) one two a b c)
     (λ (ne : x.id ≢ id).
-    let later : row_of rows id ≡ Some r = sym (ap (λ b. cond b (Some x) (row_of rows id)) (no_eq x.id id ne)) ∙ found in
+    let later : row_of rows id ≡ Some r = sym (ap (λ b. cond b (Some x) (row_of rows id)) (ne_eqb x.id id ne)) ∙ found in
     let a : weight test (rekeyed_row id key x) ≡ weight test x = ap (weight test) (rekeyed_other id key x ne) in
     sum_more (count_by test (rekeyed id key (x ∷ rows))) (weight test (rekeyed_row id key x)) (count_by test (rekeyed id key rows)) (count_by test (x ∷ rows)) (weight test x) (count_by test rows) (weight test r) (weight test (rekeyed_row id key r)) one two a (rest later))
     which
@@ -147,7 +145,7 @@ module _ (rows : List Row) (r : Row) (key : Key) (up : RowsFrom 0 rows) (is_live
               ∙ balance (count_by test left) (count_by test ordered.sorted) (f fresh_row) (f r) (count_by test rows) (count_by test (rekeyed r.id key rows))
               (ap (λ (y : Row). count_by test left + f y) (sym at_i) ∙ sum_by-remove f ordered.sorted i no_row below) (ordered.same test) (count_rekeyed test r.id 0 key r rows up is_live);
           rising = rising_insert fresh_row no_row left j left_rising within (λ k less. ap (λ (m : Key). key_cmp (get_or left k no_row).key m) (sym new_key) ∙ before k less)
-              (λ k le under. ap (λ (m : Key). key_cmp m (get_or left k no_row).key) (sym new_key) ∙ to_less (get_or left k no_row).key key (behind k le under));
+              (λ k le under. ap (λ (m : Key). key_cmp m (get_or left k no_row).key) (sym new_key) ∙ key_cmp-Greater (get_or left k no_row).key key (behind k le under));
         }
 
 -- the slot of a row with another key
@@ -197,7 +195,7 @@ one_new : (id : ℕ) (ids : List ℕ) (new : ℕ → Key) (r : Row) → with_new
 one_new id ids new r = id_same (eqb r.id id) (new id) r ids new (rekeyed_row id (new id) r) (keeps_id id (new id) r) ∙ once_by (eqb r.id id) (has ids r.id) (new id) (new r.id) r (λ e. ap new (sym (eqb-true r.id id e)))
 
 sym_eq : (a b : ℕ) → (a == b) ≡ (b == a)
-sym_eq a b = ⊎_elim (λ (e : a ≡ b). yes_eq a b e ∙ sym (yes_eq b a (sym e))) (λ (ne : a ≢ b). no_eq a b ne ∙ sym (no_eq b a (λ e. ne (sym e)))) (id_cases a b)
+sym_eq a b = ⊎_elim (λ (e : a ≡ b). eq-eqb a b e ∙ sym (eq-eqb b a (sym e))) (λ (ne : a ≢ b). ne_eqb a b ne ∙ sym (ne_eqb b a (λ e. ne (sym e)))) (id_cases a b)
 
 pub map_new : (id : ℕ) (ids : List ℕ) (new : ℕ → Key) (rows : List Row) → map (with_new ids new) (rekeyed id (new id) rows) ≡ map (with_new (id ∷ ids) new) rows
 map_new id ids new [] = refl
@@ -233,7 +231,7 @@ no_row_at rows key up none = by (row_at rows key) refl
   where
     by : (o : Option Row) → row_at rows key ≡ o → row_at rows key ≡ None
     by None e = e
-    by (Some x) e = absurd (none x (found_live (λ r. same_key r.key key) 0 rows x up e) (same_from_true x.key key (found_passes (λ r. same_key r.key key) rows x e)))
+    by (Some x) e = absurd (none x (found_live (λ r. same_key r.key key) 0 rows x up e) (same_key-true x.key key (found_passes (λ r. same_key r.key key) rows x e)))
 
 some_map : (g : Row → Row) (o : Option Row) → IsSome o → IsSome (option_map g o)
 some_map g None e = cc
@@ -273,14 +271,14 @@ pub missing_in : (slots : List (Option Slot)) (order : List ℕ) (o : Ordered (l
 missing_in slots order o k i within before behind =
     let p : Row → Bool = λ r. same_key r.key k in
     none_counted p (live 0 slots) (sym (o.same p) ∙ counted p no_row o.sorted 0 (omega arith) (λ j h. absurd (omega arith))
-    (λ j _ less. ⊎_elim (λ l. ap is_eq (before_in slots order o.sorted o.is o.live o.rising k i within before behind j l)) (λ g. ap is_eq (behind_in slots order o.sorted o.is o.live o.rising k i within before behind j g less)) (cases_lt j i)))
+    (λ j _ less. ⊎_elim (λ l. same_key-Less (get_or o.sorted j no_row).key k (before_in slots order o.sorted o.is o.live o.rising k i within before behind j l)) (λ g. same_key-Greater (get_or o.sorted j no_row).key k (behind_in slots order o.sorted o.is o.live o.rising k i within before behind j g less)) (cases_lt j i)))
 
 -- a row is at the place where its key ties
 pub placed : (slots : List (Option Slot)) (order : List ℕ) (o : Ordered (live 0 slots) order) → Differ (live 0 slots) → (r : Row) → IsLive (live 0 slots) r → (k : Key) → k ≡ r.key → (i : ℕ) → i < length order
     → key_cmp (key_at slots (get_or order i 0)) k ≡ Equal → (i < length o.sorted) × (get_or o.sorted i no_row ≡ r)
 placed slots order o differ r is_live k parts i below tie =
     let within : i < length o.sorted = omega (arith, ap (λ (l : List ℕ). length l) o.is, length-map o.sorted (λ (x : Row). x.id)) in
-    let same : (get_or o.sorted i no_row).key ≡ k = same_from_tie (get_or o.sorted i no_row).key k (ap (λ x. key_cmp x k) (sym (key_in slots order o.sorted o.is o.live o.rising i below)) ∙ tie) in
+    let same : (get_or o.sorted i no_row).key ≡ k = key_cmp-Equal (get_or o.sorted i no_row).key k (ap (λ x. key_cmp x k) (sym (key_in slots order o.sorted o.is o.live o.rising i below)) ∙ tie) in
     (within, one_key (live 0 slots) (get_or o.sorted i no_row) r differ (o.live i no_row within) is_live (same ∙ parts))
 
 -- a key that ties is there
@@ -289,7 +287,7 @@ pub tied_there : (slots : List (Option Slot)) (order : List ℕ) (sorted : List 
 tied_there slots order sorted is all rising differ k i below tie none =
     let within : i < length sorted = omega (arith, ap (λ (l : List ℕ). length l) is, length-map sorted (λ (x : Row). x.id)) in
     let x : Row = get_or sorted i no_row in
-    let same : x.key ≡ k = same_from_tie x.key k (ap (λ m. key_cmp m k) (sym (key_in slots order sorted is all rising i below)) ∙ tie) in
+    let same : x.key ≡ k = key_cmp-Equal x.key k (ap (λ m. key_cmp m k) (sym (key_in slots order sorted is all rising i below)) ∙ tie) in
     none_some none (ap (row_at (live 0 slots)) (sym same) ∙ differ x (all i no_row within))
 
 -- more keys are to come, so more ids are
@@ -298,7 +296,7 @@ more_ids ids i keys k rest each step = omega (arith, each, ap (λ (l : List Key)
 
 pub first_one : (start rows : List Row) (all_ids ids : List ℕ) (all_keys keys : List Key) (i : ℕ) (k : Key) (rest : List Key) → Rekeying start all_ids all_keys rows (drop i ids) keys → keys ≡ k ∷ rest → i < length ids
     → Rekeying start all_ids all_keys rows (get_or ids i 0 ∷ drop (i + 1) ids) (k ∷ rest)
-first_one start rows all_ids ids all_keys keys i k rest r step below = subst (λ (l : List ℕ). Rekeying start all_ids all_keys rows l (k ∷ rest)) (drop_next ids i below) (subst (λ (l : List Key). Rekeying start all_ids all_keys rows (drop i ids) l) step r)
+first_one start rows all_ids ids all_keys keys i k rest r step below = subst (λ (l : List ℕ). Rekeying start all_ids all_keys rows l (k ∷ rest)) (drop_more ids i 0 below) (subst (λ (l : List Key). Rekeying start all_ids all_keys rows (drop i ids) l) step r)
 
 pub next_one : (start rows more : List Row) (all_ids ids : List ℕ) (all_keys keys : List Key) (id : ℕ) (k : Key) → Rekeying start all_ids all_keys rows (id ∷ ids) (k ∷ keys) → more ≡ rekeyed id k rows → Differ more → Rekeying start all_ids all_keys more ids keys
 next_one start rows more all_ids ids all_keys keys id k r is differ =

@@ -1,65 +1,15 @@
 -- Rows whose keys rise: what is found among them, and how they are counted.
-use Rattle.std.proofs.Common.{◌≡◌, ◌≢◌, ℕ, ◌+◌, ◌<◌, ◌≤◌, zero, suc, Bool, true, false, cond, eqb, List, [], ◌∷◌, length, get_or, take, drop, Option, Some, None, refl, sym, ap, ◌∙◌, subst, arith, Ordering, Less, Equal, Greater}
+use Rattle.std.proofs.Common.{◌≡◌, ◌≢◌, ℕ, ◌+◌, ◌<◌, ◌≤◌, zero, suc, Bool, true, false, cond, eqb, List, [], ◌∷◌, length, get_or, take, drop, Option, Some, None, refl, sym, ap, ◌∙◌, subst, arith, Less}
 use Rattle.std.specs.Prelude.{All}
 use Rattle.std.specs.List.{insert, remove, find, count_by}
-use Rattle.std.specs.Ordering.{nat_cmp, is_eq, ordering_then}
-use Rattle.std.specs.Cmp.Lexicographic.{slice_cmp, bytes_decides}
-use Rattle.std.proofs.lemmas.Map.Text.{is_eq-slice_cmp}
-use Rattle.std.proofs.lemmas.Cmp.{tied_itself}
 use Rattle.std.proofs.lemmas.List.Elements.{All-cons, All-nil, All-append, All-take, All-drop, All-weaker}
-use Rattle.arti_rows.specs.Key.{Key, key_cmp}
-use Rattle.arti_tree.specs.Rows.{Row, row_of, same_key, RowsFrom}
+use Rattle.arti_rows.specs.Key.{key_cmp}
+use Rattle.arti_tree.specs.Rows.{Row, row_of, RowsFrom}
 use Rattle.arti_tree.specs.Kept.{Rising}
-use Rattle.arti_tree.proofs.Order.{total}
-use Rattle.arti_tree.proofs.IdLists.{yes_eq, no_eq}
 use Rattle.std.proofs.lemmas.List.{get_or_default}
 use Rattle.std.proofs.lemmas.List.Sums.{sum_by-cons}
-
-then_equal : (a b : Ordering) → ordering_then a b ≡ Equal → (a ≡ Equal) × (b ≡ Equal)
-then_equal Less b e = cc
-then_equal Equal b e = (refl, e)
-then_equal Greater b e = cc
-
-same_text : (xs ys : List ℕ) → slice_cmp nat_cmp xs ys ≡ Equal → xs ≡ ys
-same_text xs ys e = (bytes_decides xs ys).0 (sym (is_eq-slice_cmp xs ys) ∙ ap is_eq e)
-
-pub same_from_tie : (a b : Key) → key_cmp a b ≡ Equal → a ≡ b
-same_from_tie a b e =
-    let one = then_equal (slice_cmp nat_cmp a.repo b.repo) (ordering_then (slice_cmp nat_cmp a.path b.path) (slice_cmp nat_cmp a.name b.name)) e in
-    let two = then_equal (slice_cmp nat_cmp a.path b.path) (slice_cmp nat_cmp a.name b.name) one.1 in
-    let repo = same_text a.repo b.repo one.0 in
-    let path = same_text a.path b.path two.0 in
-    let name = same_text a.name b.name two.1 in
-    let r : Key = record { repo = b.repo; path = a.path; name = a.name } in
-    let p : Key = record { repo = b.repo; path = b.path; name = a.name } in
-    let one_step : a ≡ r = ap (λ t. record { repo = t; path = a.path; name = a.name }) repo in
-    let two_steps : r ≡ p = ap (λ t. record { repo = b.repo; path = t; name = a.name }) path in
-    let three_steps : p ≡ b = ap (λ t. record { repo = b.repo; path = b.path; name = t }) name in
-    one_step ∙ two_steps ∙ three_steps
-
-tie_by : (o : Ordering) → is_eq o ≡ true → o ≡ Equal
-tie_by Less e = cc
-tie_by Equal e = refl
-tie_by Greater e = cc
-
-pub same_from_true : (a b : Key) → same_key a b ≡ true → a ≡ b
-same_from_true a b e = same_from_tie a b (tie_by (key_cmp a b) e)
-
-pub same_itself : (a : Key) → same_key a a ≡ true
-same_itself a = ap is_eq (tied_itself total a)
-
-by_bool : (b : Bool) → (b ≡ true → ⊥) → b ≡ false
-by_bool true h = absurd (h refl)
-by_bool false h = refl
-
-pub not_same : (a b : Key) → a ≢ b → same_key a b ≡ false
-not_same a b ne = by_bool (same_key a b) (λ e. ne (same_from_true a b e))
-
-pub is_false : (b : Bool) → b ≢ true → b ≡ false
-is_false b h = by_bool b h
-
-less_itself : (k : Key) → key_cmp k k ≡ Less → ⊥
-less_itself k e = let tie = tied_itself total k in cc
+use Rattle.arti_rows.specs.KeyLaws.{key_cmp-irrefl}
+use Rattle.std.proofs.lemmas.Bool.{eq-eqb, ne_eqb}
 
 -- what is found passes
 found_by : (b : Bool) (p : Row → Bool) (x r : Row) (rest : Option Row) → p x ≡ b → cond b (Some x) rest ≡ Some r → (rest ≡ Some r → p r ≡ true) → p r ≡ true
@@ -79,8 +29,8 @@ found_least p n [] r up e = cc
 found_least p n (x ∷ rows) r up e = least_by (p x) n x r (find p rows) up.0 e (λ more. omega (arith, up.0, found_least p (x.id + 1) rows r up.1 more))
 
 live_by : (b : Bool) (x r : Row) (rest found : Option Row) → cond b (Some x) rest ≡ Some r → (rest ≡ Some r → (x.id + 1 ≤ r.id) × (found ≡ Some r)) → cond (eqb x.id r.id) (Some x) found ≡ Some r
-live_by true x r rest found e more = let same : x ≡ r = cc in ap (λ t. cond t (Some x) found) (yes_eq x.id r.id (ap (λ (y : Row). y.id) same)) ∙ e
-live_by false x r rest found e more = let both = more e in ap (λ t. cond t (Some x) found) (no_eq x.id r.id (λ same. omega (arith, both.0))) ∙ both.1
+live_by true x r rest found e more = let same : x ≡ r = cc in ap (λ t. cond t (Some x) found) (eq-eqb x.id r.id (ap (λ (y : Row). y.id) same)) ∙ e
+live_by false x r rest found e more = let both = more e in ap (λ t. cond t (Some x) found) (ne_eqb x.id r.id (λ same. omega (arith, both.0))) ∙ both.1
 
 -- what is found is live
 pub found_live : (p : Row → Bool) (n : ℕ) (rows : List Row) (r : Row) → RowsFrom n rows → find p rows ≡ Some r → row_of rows r.id ≡ Some r
@@ -141,7 +91,7 @@ rising_remove (x ∷ rows) (suc i) up =
 -- the others have another key
 pub others_differ : (r d : Row) (rows : List Row) (i : ℕ) → Rising rows → i < length rows → get_or rows i d ≡ r → All (λ x. x.key ≢ r.key) (remove rows i)
 others_differ r d [] i up below is = absurd (omega arith)
-others_differ r d (x ∷ rows) zero up below is = All-weaker (λ y. key_cmp x.key y.key ≡ Less) (λ y. y.key ≢ r.key) (λ y less e. less_itself x.key (ap (λ k. key_cmp x.key k) (ap (λ (z : Row). z.key) is ∙ sym e) ∙ less)) rows up.0
+others_differ r d (x ∷ rows) zero up below is = All-weaker (λ y. key_cmp x.key y.key ≡ Less) (λ y. y.key ≢ r.key) (λ y less e. key_cmp-irrefl x.key (ap (λ k. key_cmp x.key k) (ap (λ (z : Row). z.key) is ∙ sym e) ∙ less)) rows up.0
 others_differ r d (x ∷ rows) (suc i) up below is =
     let P : Row → Type 0 = λ y. y.key ≢ r.key in
-    All-cons P x (remove rows i) (λ e. less_itself x.key (ap (λ k. key_cmp x.key k) (e ∙ ap (λ (z : Row). z.key) (sym is)) ∙ up.0 i d (omega arith))) (others_differ r d rows i up.1 (omega arith) is)
+    All-cons P x (remove rows i) (λ e. key_cmp-irrefl x.key (ap (λ k. key_cmp x.key k) (e ∙ ap (λ (z : Row). z.key) (sym is)) ∙ up.0 i d (omega arith))) (others_differ r d rows i up.1 (omega arith) is)

@@ -2,10 +2,9 @@
 use Rattle.std.proofs.Common.{◌≡◌, ◌≢◌, ℕ, ◌+◌, ◌<◌, ◌≤◌, suc, Bool, true, false, cond, eqb, List, [], ◌∷◌, length, get_or, Option, Some, None, refl, sym, ap, ◌∙◌, arith}
 use Rattle.std.specs.Prelude.{nat_lt, not}
 use Rattle.std.specs.List.{insert, remove, filter, find}
-use Rattle.std.proofs.lemmas.Bool.{eqb-true, eqb-false, ltb-true, ltb-false}
+use Rattle.std.proofs.lemmas.Bool.{eqb-true, eqb-false, ltb-true, ltb-false, lt-ltb, ne_eqb}
 use Rattle.arti_tree.specs.Ids.{AscendFrom, with_id, without_id}
 use Rattle.arti_tree.specs.Rows.{Row, ids, row_of, with_row, without_row, RowsFrom}
-use Rattle.arti_tree.proofs.IdLists.{yes_lt, no_eq}
 
 pub lower : (m n : ℕ) (rows : List Row) → n ≤ m → RowsFrom m rows → RowsFrom n rows
 lower m n [] le up = tt
@@ -30,7 +29,7 @@ filtered_ascend p n (r ∷ rows) up = filtered_by (p r) n r (filter p rows) up.0
 -- no row has a lesser id
 pub none_below : (n : ℕ) (rows : List Row) (id : ℕ) → RowsFrom n rows → id < n → row_of rows id ≡ None
 none_below n [] id up less = refl
-none_below n (r ∷ rows) id up less = ap (λ b. cond b (Some r) (row_of rows id)) (no_eq r.id id (λ e. omega (arith, up.0))) ∙ none_below (r.id + 1) rows id up.1 (omega (arith, up.0))
+none_below n (r ∷ rows) id up less = ap (λ b. cond b (Some r) (row_of rows id)) (ne_eqb r.id id (λ e. omega (arith, up.0))) ∙ none_below (r.id + 1) rows id up.1 (omega (arith, up.0))
 
 pub cond_none : (b : Bool) (r : Row) (o : Option Row) → cond b (Some r) o ≡ None → (b ≡ false) × (o ≡ None)
 cond_none true r o e = cc
@@ -40,11 +39,11 @@ cond_none false r o e = (refl, e)
 
 pub first_row : (n : ℕ) (r : Row) (rows : List Row) → RowsFrom n rows → r.id < n → with_row r rows ≡ r ∷ rows
 first_row n r [] up less = refl
-first_row n r (x ∷ rows) up less = ap (λ b. cond b (r ∷ x ∷ rows) (x ∷ with_row r rows)) (yes_lt r.id x.id (omega (arith, up.0)))
+first_row n r (x ∷ rows) up less = ap (λ b. cond b (r ∷ x ∷ rows) (x ∷ with_row r rows)) (lt-ltb r.id x.id (omega (arith, up.0)))
 
 first_id : (n id : ℕ) (xs : List ℕ) → AscendFrom n xs → id < n → with_id id xs ≡ id ∷ xs
 first_id n id [] up less = refl
-first_id n id (x ∷ xs) up less = ap (λ b. cond b (id ∷ x ∷ xs) (x ∷ with_id id xs)) (yes_lt id x (omega (arith, up.0)))
+first_id n id (x ∷ xs) up less = ap (λ b. cond b (id ∷ x ∷ xs) (x ∷ with_id id xs)) (lt-ltb id x (omega (arith, up.0)))
 
 find_no_by : (b : Bool) (p : Row → Bool) (r x : Row) (rows w : List Row) → p r ≡ false → find p w ≡ find p rows → find p (cond b (r ∷ x ∷ rows) (x ∷ w)) ≡ find p (x ∷ rows)
 find_no_by true p r x rows w fails same = ap (λ t. cond t (Some r) (find p (x ∷ rows))) fails
@@ -127,7 +126,7 @@ keep_by b x rows w holds same = ap (λ t. cond t (x ∷ w) w) holds ∙ ap (λ l
 -- where all ids are greater, none is left out
 pub keeps_rows : (id n : ℕ) (rows : List Row) → RowsFrom n rows → id < n → without_row id rows ≡ rows
 keeps_rows id n [] up less = refl
-keeps_rows id n (x ∷ rows) up less = keep_by (not (eqb x.id id)) x rows (without_row id rows) (ap not (no_eq x.id id (λ e. omega (arith, up.0)))) (keeps_rows id (x.id + 1) rows up.1 (omega (arith, up.0)))
+keeps_rows id n (x ∷ rows) up less = keep_by (not (eqb x.id id)) x rows (without_row id rows) (ap not (ne_eqb x.id id (λ e. omega (arith, up.0)))) (keeps_rows id (x.id + 1) rows up.1 (omega (arith, up.0)))
 
 -- where no row has the id, none is left out
 pub without_none : (id : ℕ) (rows : List Row) → row_of rows id ≡ None → without_row id rows ≡ rows
@@ -197,7 +196,7 @@ find_without_by false false p x y rows w passes ne found rest = ap (λ t. cond t
 pub find_without : (p : Row → Bool) (id : ℕ) (y : Row) (rows : List Row) → find p rows ≡ Some y → y.id ≢ id → find p (without_row id rows) ≡ Some y
 find_without p id y [] found ne = cc
 find_without p id y (x ∷ rows) found ne =
-    find_without_by (eqb x.id id) (p x) p x y rows (without_row id rows) refl (λ _ same. no_eq x.id id (λ e. ne (ap (λ (r : Row). r.id) (sym same) ∙ e))) found (λ rest. find_without p id y rows rest ne)
+    find_without_by (eqb x.id id) (p x) p x y rows (without_row id rows) refl (λ _ same. ne_eqb x.id id (λ e. ne (ap (λ (r : Row). r.id) (sym same) ∙ e))) found (λ rest. find_without p id y rows rest ne)
 
 none_without_by : (b : Bool) (p : Row → Bool) (x : Row) (w : List Row) → (b ≡ false → p x ≡ false) → find p w ≡ None → find p (cond (not b) (x ∷ w) w) ≡ None
 none_without_by true p x w fails none = none

@@ -7,16 +7,17 @@ use Rattle.std.proofs.lemmas.Bool.{eqb-true}
 use Rattle.std.proofs.lemmas.List.Elements.{All-append, All-take, All-drop}
 use Rattle.std.proofs.lemmas.List.Edits.{length-remove}
 use Rattle.std.proofs.lemmas.List.Sums.{sum_by-remove}
-use Rattle.arti_rows.specs.Key.{Key}
+use Rattle.arti_rows.specs.Key.{Key, same_key}
 use Rattle.arti_tree.specs.declared.slot.Slot.{Slot}
 use Rattle.arti_tree.specs.Ids.{without_id}
-use Rattle.arti_tree.specs.Rows.{Row, ids, row_of, row_at, same_key, has_folder, folder_of, folder_id, lies_in, is_of, without_row, IsLive, IsTree}
+use Rattle.arti_tree.specs.Rows.{Row, ids, row_of, row_at, has_folder, folder_of, folder_id, lies_in, is_of, without_row, IsLive, IsTree}
 use Rattle.arti_tree.specs.Slots.{at, row_with, live, is_it}
 use Rattle.arti_tree.specs.Kept.{inside, Ordered, Kept}
 use Rattle.arti_tree.proofs.RowLists.{rows_from_without, ids_without, find_without, still_none, gone, filter_without, filter_skips, taken_at}
-use Rattle.arti_tree.proofs.Rises.{found_passes, found_live, rising_remove, others_differ, same_from_true}
+use Rattle.arti_tree.proofs.Rises.{found_passes, found_live, rising_remove, others_differ}
 use Rattle.arti_tree.proofs.Folders.{filter_none, none_passes, lies, lies_by_id}
 use Rattle.arti_tree.proofs.Looks.{no_row, live_in}
+use Rattle.arti_rows.specs.KeyLaws.{same_key-true}
 
 pub ids_remove : (rows : List Row) (i : ℕ) → ids (remove rows i) ≡ remove (ids rows) i
 ids_remove [] zero = refl
@@ -65,7 +66,7 @@ module _ (rows : List Row) (r : Row) (tree : IsTree rows) (live : IsLive rows r)
   other_folder x f was has there e =
       let f_live : IsLive rows f = found_live (λ z. same_key z.key (folder_of x.key)) 0 rows f tree.ascend there in
       let same : f ≡ r = one_row f f_live e in
-      let f_key : f.key ≡ folder_of x.key = same_from_true f.key (folder_of x.key) (found_passes (λ z. same_key z.key (folder_of x.key)) rows f there) in
+      let f_key : f.key ≡ folder_of x.key = same_key-true f.key (folder_of x.key) (found_passes (λ z. same_key z.key (folder_of x.key)) rows f there) in
       let lies_here : lies_in r.key x ≡ true = subst (λ (k : Key). lies_in k x ≡ true) (sym f_key ∙ ap (λ (y : Row). y.key) same) (lies x has) in
       none_passes (lies_in r.key) rows x empty was lies_here
 

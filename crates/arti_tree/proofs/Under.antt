@@ -4,19 +4,17 @@ use Rattle.std.specs.Prelude.{◌||◌, ◌==◌, map, nat_eq, not}
 use Rattle.std.specs.List.{list_any}
 use Rattle.std.specs.Cmp.Lexicographic.{pointwise, bytes_decides}
 use Rattle.std.proofs.Math.Seq.{take-append_seam, drop-append_seam}
-use Rattle.std.proofs.lemmas.Bool.{eqb-true}
-use Rattle.arti_rows.specs.Key.{Key, key_of, whole_of, path_of, name_of, fronts, folders_above, root_path}
+use Rattle.std.proofs.lemmas.Bool.{eqb-true, eq-eqb, or_cases, or_right, cases_Bool}
+use Rattle.arti_rows.specs.Key.{Key, key_of, whole_of, path_of, name_of, fronts, folders_above, root_path, same_key}
 use Rattle.arti_rows.specs.Names.{IsKey, is_repo_key, path_fault, key_fault}
 use Rattle.arti_rows.specs.declared.fault.KeyFault.TheVariants.{BadName}
-use Rattle.arti_tree.specs.Rows.{same_key, has_folder, folder_of}
+use Rattle.arti_tree.specs.Rows.{has_folder, folder_of}
 use Rattle.arti_tree.specs.Searched.{key}
 use Rattle.arti_tree.specs.Renames.{is_within, moved_whole, may_follow}
-use Rattle.arti_tree.proofs.IdLists.{yes_eq}
-use Rattle.arti_tree.proofs.Rises.{same_from_true, same_itself}
-use Rattle.arti_tree.proofs.Fronts.{front_good}
-use Rattle.arti_tree.proofs.Cuts.{cut_at, whole_of-key_of}
 use Rattle.arti_tree.proofs.Above.{HasNone, rejoins, good, plain, joined, at_root, folder_whole}
-use Rattle.arti_tree.proofs.Beneath.{or_parts, or_right, eq_or}
+use Rattle.arti_rows.specs.KeyLaws.{same_key-true, same_key-refl}
+use Rattle.arti_rows.specs.FolderLaws.{front_good}
+use Rattle.arti_rows.specs.CutLaws.{cut_at, whole_of-key_of}
 
 abbrev slash : ℕ → Bool
 slash b = b == 47
@@ -44,7 +42,7 @@ front_by : (b : Bool) (p : List ℕ → Bool) (x : ℕ) (w : List ℕ) (l : List
 front_by true p x w l is e rest = ⊎_elim
     (λ (here : p [] ≡ true). let f : Front p (x ∷ w) = record { front = []; tail = w; whole = ap (λ (b : ℕ). b ∷ w) (eqb-true x 47 is); passes = here } in f)
     (λ (more : list_any p (map (λ (front : List ℕ). x ∷ front) l) ≡ true). longer p x w (rest (sym (any_map p x l) ∙ more)))
-    (or_parts (p []) (list_any p (map (λ (front : List ℕ). x ∷ front) l)) e)
+    (or_cases (p []) (list_any p (map (λ (front : List ℕ). x ∷ front) l)) e)
 front_by false p x w l is e rest = longer p x w (rest (sym (any_map p x l) ∙ e))
 
 front_found : (p : List ℕ → Bool) (w : List ℕ) → list_any p (fronts w) ≡ true → Front p w
@@ -72,7 +70,7 @@ pub beneath_under : (top k : Key) → IsKey k → is_beneath top k ≡ true → 
 beneath_under top k is e =
     let p : List ℕ → Bool = λ (front : List ℕ). same_key (key_of k.repo front) top in
     let f : Front p (whole_of k) = front_found p (whole_of k) (sym (any_keys (λ f. same_key f top) k.repo (fronts (whole_of k))) ∙ e) in
-    let same : key_of k.repo f.front ≡ top = same_from_true (key_of k.repo f.front) top f.passes in
+    let same : key_of k.repo f.front ≡ top = same_key-true (key_of k.repo f.front) top f.passes in
     let front_is : path_fault f.front ≡ None = front_good f.front f.tail (ap path_fault (sym f.whole) ∙ good k is) in
     let whole : whole_of top ≡ f.front = ap whole_of (sym same) ∙ whole_of-key_of k.repo f.front front_is (rejoins f.front) in
     record { repo = ap (λ (x : Key). x.repo) same; tail = f.tail; whole = f.whole ∙ ap (λ (l : List ℕ). l ++ 47 ∷ f.tail) (sym whole) }
@@ -82,7 +80,7 @@ under_beneath top k is u =
     let p : List ℕ → Bool = λ (front : List ℕ). same_key (key_of k.repo front) top in
     let same : key_of k.repo (whole_of top) ≡ top = ap (λ (r : List ℕ). key_of r (whole_of top)) u.repo ∙ is.cut in
     ap (λ (w : List ℕ). list_any (λ f. same_key f top) (map (λ front. key_of k.repo front) (fronts w))) u.whole ∙ any_keys (λ f. same_key f top) k.repo (fronts (whole_of top ++ 47 ∷ u.tail))
-    ∙ front_passes p (whole_of top) u.tail (ap (λ (x : Key). same_key x top) same ∙ same_itself top)
+    ∙ front_passes p (whole_of top) u.tail (ap (λ (x : Key). same_key x top) same ∙ same_key-refl top)
 
 slash_there : (c d : List ℕ) → get_or (c ++ 47 ∷ d) (length c) 0 ≡ 47
 slash_there [] d = refl
@@ -107,7 +105,7 @@ heads x y a c e = cc
 behind : (a b c d : List ℕ) → a ++ 47 ∷ b ≡ c ++ 47 ∷ d → HasNone b → Behind a c
 behind [] b [] d e none = record { rest = []; is = refl; follows = refl }
 behind [] b (y ∷ c) d e none = absurd (not_in b c d none (tails 47 y b (c ++ 47 ∷ d) e))
-behind (x ∷ a) b [] d e none = record { rest = x ∷ a; is = refl; follows = yes_eq x 47 (heads x 47 (a ++ 47 ∷ b) d e) }
+behind (x ∷ a) b [] d e none = record { rest = x ∷ a; is = refl; follows = eq-eqb x 47 (heads x 47 (a ++ 47 ∷ b) d e) }
 behind (x ∷ a) b (y ∷ c) d e none =
     let rest : Behind a c = behind a b c d (tails x y (a ++ 47 ∷ b) (c ++ 47 ∷ d) e) none in
     let first : x ≡ y = heads x y (a ++ 47 ∷ b) (c ++ 47 ∷ d) e in
@@ -126,7 +124,7 @@ path_under top k is u = ⊎_elim
     let b : Behind k.path (whole_of top) = behind k.path k.name (whole_of top) u.tail (sym (joined k is has) ∙ u.whole) (plain k is) in
     let p : Path top k = record { has = has; rest = b.rest; path = b.is; follows = b.follows } in p)
     (λ (has : has_folder k ≡ false). absurd (not_in k.name (whole_of top) u.tail (plain k is) (sym (at_root k is has) ∙ u.whole)))
-    (eq_or (has_folder k))
+    (cases_Bool (has_folder k))
 
 -- the whole from a path that goes on
 record Ends (w rest name : List ℕ) : Type 0 where
@@ -160,7 +158,7 @@ under_path top k top_is is repo rest path follows = ⊎_elim
     let e : Ends (whole_of top) rest k.name = ends (whole_of top) rest k.name follows in
     let u : Under top k = record { repo = repo; tail = e.tail; whole = joined k is has ∙ ap (λ (l : List ℕ). l ++ 47 ∷ k.name) path ∙ e.is } in u)
     (λ (has : has_folder k ≡ false). absurd (not_dot (whole_of top) rest (good top top_is) (sym (root_from k has) ∙ path) follows))
-    (eq_or (has_folder k))
+    (cases_Bool (has_folder k))
 
 -- a key that keeps the rules is made of its repository and whole
 pub whole_made : (repo w : List ℕ) → key_fault repo w ≡ None → whole_of (key_of repo w) ≡ w
@@ -204,7 +202,7 @@ pub record Within (top k : Key) : Type 0 where
   pub whole : whole_of k ≡ whole_of top ++ rest
 
 pub within_cases : (top k : Key) → IsKey k → is_within top k ≡ true → (k ≡ top) ⊎ Under top k
-within_cases top k is e = ⊎_elim (λ (same : same_key k top ≡ true). inl (same_from_true k top same)) (λ (b : is_beneath top k ≡ true). inr (beneath_under top k is b)) (or_parts (same_key k top) (is_beneath top k) e)
+within_cases top k is e = ⊎_elim (λ (same : same_key k top ≡ true). inl (same_key-true k top same)) (λ (b : is_beneath top k ≡ true). inr (beneath_under top k is b)) (or_cases (same_key k top) (is_beneath top k) e)
 
 pub within_is : (top k : Key) → IsKey k → is_within top k ≡ true → Within top k
 within_is top k is e = ⊎_elim
@@ -213,7 +211,7 @@ within_is top k is e = ⊎_elim
     (within_cases top k is e)
 
 pub within_itself : (top : Key) → is_within top top ≡ true
-within_itself top = ap (λ b. b || is_beneath top top) (same_itself top)
+within_itself top = ap (λ b. b || is_beneath top top) (same_key-refl top)
 
 pub under_within : (top k : Key) → IsKey top → Under top k → is_within top k ≡ true
 under_within top k is u = or_right (same_key k top) (is_beneath top k) (under_beneath top k is u)

@@ -1,12 +1,12 @@
 -- A row that gets another key, and the rows beneath it with it.
-use Rattle.std.specs.Prelude.{◌≡◌, ℕ, ◌==◌, ◌||◌, ◌&&◌, Bool, true, false, if◌then◌else◌, map, drop, List, [], ◌∷◌, ◌++◌, length, Option, Some, None, IsSome}
+use Rattle.std.specs.Prelude.{◌≡◌, ℕ, ◌==◌, ◌||◌, ◌&&◌, not, nat_lt, Bool, true, false, if◌then◌else◌, map, drop, List, [], ◌∷◌, ◌++◌, length, Option, Some, None, IsSome}
 use Rattle.std.specs.Option.{option_map_or, is_some}
 use Rattle.std.specs.List.{list_any}
-use Rattle.arti_rows.specs.Key.{Key, key_of, whole_of, folders_above}
+use Rattle.arti_rows.specs.Key.{Key, key_of, whole_of, folders_above, same_key}
 use Rattle.arti_rows.specs.Names.{key_fault}
 use Rattle.arti_tree.specs.declared.fault.TreeFault.{TreeFault}
 use Rattle.arti_tree.specs.declared.fault.TreeFault.TheVariants.{Taken}
-use Rattle.arti_tree.specs.Rows.{Row, row_of, row_at, same_key, IsLive}
+use Rattle.arti_tree.specs.Rows.{Row, row_of, row_at, IsLive}
 use Rattle.arti_tree.specs.Slots.{no_key}
 
 -- a key is this one, or lies beneath it at whatever depth
@@ -31,6 +31,10 @@ renamed rows id to = option_map_or (λ r. map (moved_row r.key to) rows) (row_of
 -- why a row is not renamed
 abbrev pub rename_fault : List Row → ℕ → Key → Option TreeFault
 rename_fault rows id to = if is_some (row_of rows id) && is_some (row_at rows to) then Some Taken else None
+
+-- a path may have so many bytes and segments
+abbrev pub fits : ℕ → ℕ → Bool
+fits long deep = not (nat_lt 1024 long || nat_lt 64 deep)
 
 -- each key that changes keeps the rules of keys
 abbrev pub StayKeys : List Row → Key → Key → Type 0

@@ -3,9 +3,9 @@ use Rattle.std.specs.Prelude.{◌≡◌, ℕ, ◌+◌, ◌<◌, ◌≤◌, ◌^�
 use Rattle.std.specs.List.{count_by}
 use Rattle.std.specs.List.{filter, find, list_any}
 use Rattle.std.specs.Option.{option_map_or}
-use Rattle.std.specs.Ordering.{is_lt, is_eq}
+use Rattle.std.specs.Ordering.{is_lt}
 use Rattle.std.specs.Cmp.Lexicographic.{pointwise}
-use Rattle.arti_rows.specs.Key.{Key, key_of, key_cmp, folders_above, root_path}
+use Rattle.arti_rows.specs.Key.{Key, key_of, key_cmp, same_key, folders_above, root_path}
 use Rattle.arti_rows.specs.Names.{IsKey}
 
 -- an item of the tree, under its id
@@ -17,10 +17,6 @@ pub record Row : Type 0 where
 -- the ids of rows
 abbrev pub ids : List Row → List ℕ
 ids rows = map (λ r. r.id) rows
-
--- two keys are the same
-abbrev pub same_key : Key → Key → Bool
-same_key a b = is_eq (key_cmp a b)
 
 -- the row of an id
 abbrev pub row_of : List Row → ℕ → Option Row

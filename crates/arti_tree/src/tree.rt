@@ -2,19 +2,20 @@
 ghost use Rattle.std.specs.Prelude.{◌≡◌, ◌≢◌, ◌-◌, ◌&&◌, drop, slice_index_or, IfErr, ◌<◌, ◌≤◌, ◌+◌, ◌^◌, vec_len, vec_capacity, List, [], ◌++◌, length, if◌then◌else◌, map, option_map, IfOk, IfSome, IsSome, OnOk, OnErr, Some, None, true, false};
 ghost use Rattle.std.specs.Option.{option_map_or, is_none, is_some};
 ghost use Rattle.std.specs.List.{filter, find};
-ghost use Rattle.arti_tree.specs.Rows.{Row, ids, row_of, row_at, lies_in, is_of, rank_of, folder_id, with_row, without_row, may_go, HasFolder, IsFolder, IsTree};
+ghost use Rattle.arti_tree.specs.Rows.{Row, ids, row_of, row_at, lies_in, lies_beneath, is_of, rank_of, folder_id, with_row, without_row, may_go, HasFolder, IsFolder, IsLive, IsTree};
 ghost use Rattle.arti_tree.specs.Ids.{AscendFrom};
 ghost use Rattle.arti_tree.specs.Slots.{row_with};
 ghost use Rattle.arti_tree.specs.Searched.{key};
 ghost use Rattle.arti_tree.specs.Adds.{is_end, is_missing, is_file_at, keys_added, put_fault, Adds};
 ghost use Rattle.arti_rows.specs.Key.{folders_above, whole_of};
+ghost use Rattle.arti_rows.specs.Names.{key_fault};
 ghost use Rattle.arti_tree.specs.Chains.{CanAdd, Pushes};
-ghost use Rattle.arti_tree.specs.Renames.{AreWithin, is_within, key_for, moved_row, renamed, rename_fault, StayKeys};
+ghost use Rattle.arti_tree.specs.Renames.{AreWithin, is_within, key_for, moved_row, moved_whole, renamed, rename_fault, StayKeys};
 
 use crate::TreeFault;
 use crate::blocks::Blocks;
 use crate::ids::{add_ready, drop_id, free_id, push_ready};
-use crate::keys::moved_key;
+use crate::keys::{is_within, moved_key, stays};
 use crate::lists::{Children, enter_both, leave_folder, listed, shift_both};
 use crate::rekeying::rekey_all;
 use crate::repos::{Repos, ids_of, leave};
@@ -115,6 +116,16 @@ impl Tree {
             Some((_, rank)) => Some(rank),
             None => None,
         }
+    }
+
+    // The rows that lie in the folder of an id, whose key this is.
+    fn inside(&self, id: u32, key: &ItemKey) -> &[u32]
+        requires { option_map (λ r. r.key) (row_of self.now id) ≡ Some key.now }
+        ensures rows { result.now ≡ ids (filter (lies_in key.now) self.now) }
+        ensures ascend { AscendFrom 0 result.now }
+    {
+        let _key = key;
+        listed(&self.children, id)
     }
 
     /// The rows that lie in a folder, with nothing between.
@@ -356,6 +367,66 @@ impl Tree {
         Ok(true)
     }
 
+    /// Whether what `rename` asks for holds: the folder of the key is there, the key isn't that of the row and doesn't lie beneath
+    /// it, and each key that changes with it is one still.
+    pub fn may_rename(&self, id: u32, to: &ItemKey) -> bool
+        ensures folder { result ≡ true → HasFolder self.now to.now }
+        ensures apart { result ≡ true → IfSome (row_of self.now id) (λ r. is_within r.key to.now ≡ false) }
+        ensures keys { result ≡ true → IfSome (row_of self.now id) (λ r. StayKeys self.now r.key to.now) }
+        ensures exact { HasFolder self.now to.now → IfSome (row_of self.now id) (λ r. is_within r.key to.now ≡ false) → IfSome (row_of self.now id) (λ r. StayKeys self.now r.key to.now) → result ≡ true }
+    {
+        to.rules();
+        if !self.has_folder(to) {
+            return false;
+        }
+        let Some(from) = self.key(id) else {
+            return true;
+        };
+        if is_within(from, to) {
+            return false;
+        }
+        self.keys_stay(id, from, from, to)
+    }
+
+    // Whether an item's folder is there, or it lies in none.
+    fn has_folder(&self, key: &ItemKey) -> bool
+        ensures there { result ≡ true → HasFolder self.now key.now }
+        ensures exact { HasFolder self.now key.now → result ≡ true }
+    {
+        self.rules();
+        if key.path.as_str() == "." {
+            return true;
+        }
+        match self.folder(key) {
+            Some(id) => !self.is_file(id),
+            None => false,
+        }
+    }
+
+    // Whether all keys beneath that of a folder are keys still where one that it is within becomes another.
+    fn keys_stay(&self, id: u32, folder: &ItemKey, from: &ItemKey, to: &ItemKey) -> bool
+        requires live { option_map (λ r. r.key) (row_of self.now id) ≡ Some folder.now }
+        requires within { is_within from.now folder.now ≡ true }
+        ensures stay { result ≡ true → (r : Row) → IsLive self.now r → lies_beneath folder.now r ≡ true → key_fault to.now.repo (moved_whole from.now to.now r.key) ≡ None }
+        ensures exact { ((r : Row) → IsLive self.now r → lies_beneath folder.now r ≡ true → key_fault to.now.repo (moved_whole from.now to.now r.key) ≡ None) → result ≡ true }
+    {
+        self.rules();
+        from.rules();
+        folder.rules();
+        for child in self.inside(id, folder) {
+            let Some(key) = self.key(*child) else {
+                unreachable!();
+            };
+            if !stays(key, from, to) {
+                return false;
+            }
+            if !self.keys_stay(*child, key, from, to) {
+                return false;
+            }
+        }
+        true
+    }
+
     // The rows within the key of an id are moved to another key, which isn't there.
     fn move_within(
         &mut self,
@@ -415,7 +486,6 @@ impl Tree {
         self.rules();
         from.rules();
         to.rules();
-        let whole = from.whole(alloc)?;
         let to_whole = to.whole(alloc)?;
         found.push(id)?;
         keys.push(to.clone()?)?;
@@ -424,16 +494,7 @@ impl Tree {
             let Some(folder) = self.key(found[next]) else {
                 unreachable!();
             };
-            self.push_inside(
-                alloc,
-                folder,
-                from,
-                whole.as_str(),
-                to,
-                to_whole.as_str(),
-                found,
-                keys,
-            )?;
+            self.push_inside(alloc, folder, from, to, to_whole.as_str(), found, keys)?;
             next += 1;
         }
         Ok(())
@@ -445,14 +506,12 @@ impl Tree {
         alloc: Global,
         folder: &ItemKey,
         from: &ItemKey,
-        whole: &str,
         to: &ItemKey,
         to_whole: &str,
         found: &mut Vec<u32>,
         keys: &mut Vec<ItemKey>,
     ) -> Result<(), AllocError>
         requires within { is_within from.now folder.now ≡ true }
-        requires whole { whole.now ≡ whole_of from.now }
         requires to_whole { to_whole.now ≡ whole_of to.now }
         requires keys { StayKeys self.now from.now to.now }
         ensures ids { OnOk result (found.new.items ≡ found.old.items ++ ids (filter (lies_in folder.now) self.now)) }
@@ -464,7 +523,7 @@ impl Tree {
             let Some(item) = self.key(*child) else {
                 unreachable!();
             };
-            let Some(key) = moved_key(alloc, item, from, whole, to, to_whole)? else {
+            let Some(key) = moved_key(alloc, item, from, to, to_whole)? else {
                 unreachable!();
             };
             found.push(*child)?;

@@ -1,5 +1,6 @@
 use Rattle.std.proofs.Common.{◌≡◌, ℕ, List, ◌++◌, false, refl, sym, ap, ◌∙◌, rules}
 use Rattle.std.proofs.lemmas.List.{append_cancel_left}
+use Rattle.arti_rows.specs.Key.{whole_of}
 use Rattle.arti_tree.specs.Renames.{may_follow}
 use Rattle.arti_tree.proofs.keys.beneath.Goals as goal
 use Rattle.arti_tree.proofs.keys.beneath.Goals.{in_default-via-in-Some+else-may_follow, in_default-via-in_default}
@@ -11,8 +12,8 @@ pub returns-in_default-clause-none : goal.returns-in_default-clause-none
 returns-in_default-clause-none c = λ _ rest e.
     elim c.in_default.branch [
       | in_default-via-in-Some+else-may_follow w ↦
-          let is : c.args.path.now ≡ c.args.whole.now ++ w.in-Some.rest.now = search rules in
+          let is : c.args.path.now ≡ whole_of c.args.top.now ++ w.in-Some.rest.now = search rules in
           let fails : may_follow w.in-Some.rest.now ≡ false = search rules in
-          other c.args.path.now c.args.whole.now w.in-Some.rest.now rest is e fails
+          other c.args.path.now (whole_of c.args.top.now) w.in-Some.rest.now rest is e fails
       | in_default-via-in_default w ↦ absurd (w.in_default.ensures.none refl rest e)
     ]

@@ -2,12 +2,11 @@ use Rattle.std.proofs.Common.{◌≡◌, ◌++◌, List, ℕ, Bool, true, false,
 use Rattle.arti_rows.specs.Key.{Key, key_of, whole_of}
 use Rattle.arti_rows.specs.Names.{IsKey, key_fault}
 use Rattle.arti_tree.specs.Searched.{key}
-use Rattle.arti_tree.proofs.Folders.{and_parts}
 use Rattle.std.specs.Prelude.{◌&&◌, nat_eq}
 use Rattle.std.specs.Cmp.Lexicographic.{pointwise, bytes_decides}
 use Rattle.arti_tree.specs.Renames.{is_within, moved, moved_whole, may_follow}
-use Rattle.arti_tree.proofs.Rises.{is_false}
 use Rattle.arti_tree.proofs.Under.{Under, Path, under_path, under_within, path_under, moved_parts, moved_top, within_itself, within_cases, key_made}
+use Rattle.std.proofs.lemmas.Bool.{and_parts, false_from_ne_true}
 use Rattle.arti_tree.proofs.keys.moved_key.Goals as goal
 
 by_yes : (b : Bool) (k : Key) → b ≡ true → Some k ≡ cond b (Some k) None
@@ -53,7 +52,7 @@ module _ (from to k : Key) (from_is : IsKey from) (is : IsKey k) (repo : k.repo 
     beneath_key good = subst IsKey (moved_parts from to k is p) (key_made to.repo (moved_whole from to k) (good e))
 
   pub not_beneath : (k ≡ from → ⊥) → ((rest : List ℕ) → k.path ≡ whole_of from ++ rest → may_follow rest ≡ false) → None ≡ cond (is_within from k) (Some (moved from to k)) None
-  not_beneath ne none = by_no (is_within from k) (moved from to k) (is_false (is_within from k) (λ w. ⊎_elim ne (λ (u : Under from k). let q : Path from k = path_under from k is u in let no : false ≡ true = sym (none q.rest q.path) ∙ q.follows in cc) (within_cases from k is w)))
+  not_beneath ne none = by_no (is_within from k) (moved from to k) (false_from_ne_true (is_within from k) (λ w. ⊎_elim ne (λ (u : Under from k). let q : Path from k = path_under from k is u in let no : false ≡ true = sym (none q.rest q.path) ∙ q.follows in cc) (within_cases from k is w)))
 
 same_parts : (a b : Key) → (pointwise nat_eq a.repo b.repo && (pointwise nat_eq a.path b.path && pointwise nat_eq a.name b.name)) ≡ true → a ≡ b
 same_parts a b e =
@@ -94,4 +93,4 @@ returns-in-None c =
     let ne : c.args.item.now ≡ c.args.from.now → ⊥ = search rules in
     let item_path : c.as_str.result.now ≡ c.args.item.now.path = search rules in
     not_beneath c.args.from.now c.args.to.now c.args.item.now c.rules-2.ensures c.rules.ensures c.requires.repo ne
-    (λ rest e. c.in-None.ensures.none refl rest (item_path ∙ e ∙ ap (λ (l : List ℕ). l ++ rest) (sym c.requires.whole)))
+    (λ rest e. c.in-None.ensures.none refl rest (item_path ∙ e))

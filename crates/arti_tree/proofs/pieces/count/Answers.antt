@@ -1,6 +1,4 @@
-use Rattle.std.proofs.Common.{◌≡◌, ◌+◌, ◌-◌, ℕ, length, get_or, refl, arith, rules}
-use Rattle.std.specs.List.{concat}
-use Rattle.arti_tree.specs.Pieces.{lists}
+use Rattle.std.proofs.Common.{◌≡◌, ◌+◌, ◌-◌, length, get_or, refl, arith, rules}
 use Rattle.arti_tree.proofs.Piecing.{last-is}
 use Rattle.arti_tree.proofs.pieces.count.Goals as goal
 

@@ -1,4 +1,4 @@
-use Rattle.std.proofs.Common.{ℕ, List, length, ap, ◌∙◌, arith}
+use Rattle.std.proofs.Common.{ℕ, List, length, ap, arith}
 use Rattle.std.specs.List.{concat}
 use Rattle.arti_tree.specs.Pieces.{lists}
 use Rattle.arti_tree.proofs.Piecing.{concat-halved}

@@ -1,4 +1,4 @@
-use Rattle.std.proofs.Common.{◌≡◌, ◌+◌, ℕ, suc, List, length, get_or, set, take, drop, [], Vec, Global, sym, ap, ◌∙◌, subst, arith, add-one}
+use Rattle.std.proofs.Common.{◌+◌, ℕ, List, length, set, take, drop, Vec, Global, sym, ap, ◌∙◌, subst, add-one}
 use Rattle.std.specs.List.{All, insert}
 use Rattle.std.proofs.lemmas.List.Elements.{All-set}
 use Rattle.arti_tree.specs.Pieces.{lists, IsWide}

@@ -1,4 +1,4 @@
-use Rattle.std.proofs.Common.{◌≡◌, ◌-◌, ℕ, List, length, get_or, slice_index, [], sym, ap, ◌∙◌, arith}
+use Rattle.std.proofs.Common.{◌-◌, ℕ, List, length, get_or, sym, ap, ◌∙◌, arith}
 use Rattle.std.specs.List.{concat}
 use Rattle.arti_tree.specs.Pieces.{lists}
 use Rattle.arti_tree.proofs.Piecing.{block-at, below-blocks, below-lists, place-is, end-lt, get_or-concat}

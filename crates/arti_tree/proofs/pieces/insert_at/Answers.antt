@@ -1,4 +1,4 @@
-use Rattle.std.proofs.Common.{◌-◌, ℕ, List, get_or, set, [], ap, ◌∙◌, arith}
+use Rattle.std.proofs.Common.{◌-◌, get_or, set, [], ap, ◌∙◌, arith}
 use Rattle.std.specs.List.{insert}
 use Rattle.arti_tree.specs.Pieces.{lists}
 use Rattle.arti_tree.proofs.Piecing.{concat-inserted, over-inserted, length-inserted}

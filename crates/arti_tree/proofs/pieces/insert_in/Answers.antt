@@ -1,4 +1,4 @@
-use Rattle.std.proofs.Common.{◌≡◌, ℕ, List, length, get_or, [], ap, ◌∙◌, arith}
+use Rattle.std.proofs.Common.{ℕ, List, length, get_or, [], ap, ◌∙◌, arith}
 use Rattle.std.specs.List.{insert}
 use Rattle.std.proofs.lemmas.List.Elements.{All-set}
 use Rattle.arti_tree.specs.Pieces.{lists, IsWide}

@@ -1,6 +1,5 @@
 use Rattle.std.proofs.Common.{◌≡◌, ◌+◌, ◌<◌, ◌≤◌, ℕ, suc, List, length, get_or, [], ap, ◌∙◌, arith, rules, add-one}
 use Rattle.std.specs.List.{concat}
-use Rattle.std.proofs.lemmas.List.{get_or_default}
 use Rattle.arti_tree.specs.Pieces.{lists, over, joined}
 use Rattle.arti_tree.proofs.Piecing.{lists-merged, concat-joined, over-joined, block-at}
 use Rattle.arti_tree.proofs.pieces.merge.Goals as goal

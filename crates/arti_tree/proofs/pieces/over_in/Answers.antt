@@ -1,4 +1,4 @@
-use Rattle.std.proofs.Common.{◌≡◌, ◌+◌, ◌-◌, ◌<◌, ℕ, List, length, get_or, drop, [], ap, ◌∙◌, sym, arith, rules}
+use Rattle.std.proofs.Common.{◌≡◌, ◌+◌, ◌-◌, ℕ, List, length, drop, ap, arith, rules}
 use Rattle.std.proofs.lemmas.List.{length-map, drop_all}
 use Rattle.arti_tree.specs.Pieces.{lists, over}
 use Rattle.arti_tree.proofs.Piecing.{over-le, over-drop, block-at}

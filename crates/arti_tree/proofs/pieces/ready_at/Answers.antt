@@ -1,7 +1,6 @@
-use Rattle.std.proofs.Common.{◌≡◌, ◌+◌, ◌<◌, ◌≤◌, ℕ, List, length, get_or, [], ◌⊎◌, sym, ap, ◌∙◌, subst, arith, rules}
+use Rattle.std.proofs.Common.{◌≡◌, ◌+◌, ◌<◌, ◌≤◌, ℕ, List, length, get_or, [], ◌⊎◌, ap, ◌∙◌, subst, arith, rules}
 use Rattle.std.specs.List.{concat}
 use Rattle.std.proofs.lemmas.List.{length-map}
-use Rattle.std.proofs.lemmas.List.Elements.{All-get_or}
 use Rattle.arti_tree.specs.Pieces.{lists, over}
 use Rattle.arti_tree.proofs.Piecing.{concat-halved, over-full, over-halved, room_for-some, room_for-halved, full-at, side-at, side-start, side-free, side-end}
 use Rattle.arti_tree.proofs.pieces.ready_at.Goals as goal

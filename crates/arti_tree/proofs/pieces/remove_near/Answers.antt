@@ -1,4 +1,4 @@
-use Rattle.std.proofs.Common.{◌≡◌, ◌-◌, ◌<◌, ◌≤◌, ℕ, List, length, get_or, [], ap, ◌∙◌, arith}
+use Rattle.std.proofs.Common.{◌-◌, ◌<◌, ◌≤◌, ℕ, List, length, get_or, [], ap, ◌∙◌, arith}
 use Rattle.std.specs.List.{concat, remove}
 use Rattle.std.proofs.lemmas.List.Edits.{length-remove}
 use Rattle.arti_tree.specs.Pieces.{lists, over}

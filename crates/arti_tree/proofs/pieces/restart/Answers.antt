@@ -1,4 +1,4 @@
-use Rattle.std.proofs.Common.{◌≡◌, ◌≢◌, ◌+◌, ◌<◌, ℕ, suc, List, length, get_or, set, slice_index, [], sym, ap, ◌∙◌, arith, rules, add-one, below_more, get_or-set_other, get_or-set_same}
+use Rattle.std.proofs.Common.{◌≡◌, ◌≢◌, ◌+◌, ◌<◌, ℕ, suc, List, length, set, slice_index, sym, ap, ◌∙◌, arith, rules, add-one, below_more, get_or-set_other, get_or-set_same}
 use Rattle.std.proofs.lemmas.List.{length-map, length-set}
 use Rattle.arti_tree.specs.Pieces.{lists, offset}
 use Rattle.arti_tree.proofs.Piecing.{offset-suc, offset-le, block-at}

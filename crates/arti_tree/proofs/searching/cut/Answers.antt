@@ -1,4 +1,4 @@
-use Rattle.arti_tree.proofs.Cuts.{cut_by_match, uncut_by_match}
+use Rattle.arti_rows.specs.CutLaws.{cut_by_match, uncut_by_match}
 use Rattle.arti_tree.proofs.searching.cut.Goals as goal
 
 pub returns-in-Some-clause-path : goal.returns-in-Some-clause-path

@@ -7,7 +7,7 @@ use Rattle.arti_tree.specs.Rows.{Row, ids, row_of, lies_in}
 use Rattle.arti_tree.specs.Slots.{no_key}
 use Rattle.arti_tree.specs.Renames.{is_within, moved, moved_whole, key_for}
 use Rattle.std.specs.Option.{option_map_or}
-use Rattle.arti_tree.proofs.IdLists.{drop_next}
+use Rattle.std.proofs.lemmas.List.{drop_more}
 use Rattle.arti_tree.proofs.Under.{within_is}
 use Rattle.arti_tree.proofs.Finding.{member, lies_within}
 use Rattle.arti_tree.proofs.tree.Tree.push_inside.Goals as goal
@@ -88,7 +88,7 @@ loop-child-preserved c =
     let out : Some c.in-Some-2.key ≡ cond (is_within from c.in-Some.item.now) (Some (moved from to c.in-Some.item.now)) None = search rules in
     let key_is : c.in-Some-2.key ≡ moved from to c.in-Some.item.now = some_moved (is_within from c.in-Some.item.now) c.in-Some-2.key (moved from to c.in-Some.item.now) (ap (is_within from) item ∙ within) out in
     let k_is : c.in-Some-2.key ≡ key_for rows from to id = key_is ∙ ap (moved from to) item ∙ sym (ap (λ o. option_map_or (λ (r : Row). moved from to r.key) o no_key) m.of) in
-    let next : drop i inside ≡ id ∷ drop (i + 1) inside = sym (ap (λ (l : List ℕ). drop i l) c.children-child-items.ensures.rows) ∙ drop_next list i c.loop-child-test.true ∙ ap (λ (l : List ℕ). id ∷ drop (i + 1) l) c.children-child-items.ensures.rows in
+    let next : drop i inside ≡ id ∷ drop (i + 1) inside = sym (ap (λ (l : List ℕ). drop i l) c.children-child-items.ensures.rows) ∙ drop_more list i 0 c.loop-child-test.true ∙ ap (λ (l : List ℕ). id ∷ drop (i + 1) l) c.children-child-items.ensures.rows in
     let found : c.push.new.self.items ≡ c.loop-child.found.items ++ id ∷ [] = search rules in
     let keys : c.push-in-loop-child.new.self.items ≡ c.loop-child.keys.items ++ c.in-Some-2.key ∷ [] = search rules in
     record {

@@ -1,14 +1,6 @@
 // A tree against plain rows.
-ghost use Rattle.std.specs.Prelude.{◌≡◌, ◌++◌, List, ℕ, None, true, false, IfOk, IfSome};
-ghost use Rattle.arti_rows.specs.Key.{whole_of};
-ghost use Rattle.arti_rows.specs.Names.{key_fault};
-ghost use Rattle.std.specs.List.{list_any};
-ghost use Rattle.arti_tree.specs.Rows.{Row, row_of, same_key, HasFolder, IsFolder, IsLive};
-ghost use Rattle.arti_tree.specs.Renames.{is_within, StayKeys};
-
-use super::*;
-use crate::keys::{behind, joined};
 use arti_rows::ItemKey;
+use arti_tree::{Tree, TreeFault};
 use std::alloc::{AllocError, Global};
 use std::process::Abort;
 use std::test::Fail;
@@ -113,6 +105,8 @@ fn each_list_is_that_of_renamed_rows(rt: HostRuntime) -> Result<(), Fail> {
         // Into itself, or where there is no folder.
         (Step::Rename("a", "k/h/n"), "a", "k", Answer::Barred),
         (Step::Rename("a", "m/n"), "a", "k", Answer::Barred),
+        (Step::Rename("a", "k"), "a", "k", Answer::Barred),
+        (Step::Rename("a", "k/y/n"), "b", "f/g/x", Answer::Barred),
         (Step::Remove, "a", "k", Answer::Stays),
         (Step::Remove, "a", "k/y", Answer::Removed),
         (Step::Rename("b", "f/k"), "a", "k", Answer::Moved(7)),
@@ -141,7 +135,7 @@ fn rename(
 ) -> Result<Answer, Fail> {
     let id = tree.get(key).unwrap_or(1_000);
     let new_key = ItemKey::new(alloc, repo, to)?;
-    if !may_rename(alloc, tree, id, &new_key)? {
+    if !tree.may_rename(id, &new_key) {
         return Ok(Answer::Barred);
     }
     match tree.rename(alloc, id, new_key) {
@@ -216,126 +210,6 @@ fn remove(tree: &mut Tree, rows: &mut Vec<Plain>, key: &ItemKey) -> Answer {
     }
     rows.retain(|row| row.id != id);
     Answer::Removed
-}
-
-// Whether what a renaming asks for holds.
-fn may_rename(alloc: Global, tree: &Tree, id: u32, to: &ItemKey) -> Result<bool, AllocError>
-    ensures folder { IfOk result (λ may. may ≡ true → HasFolder tree.now to.now) }
-    ensures apart { IfOk result (λ may. may ≡ true → IfSome (row_of tree.now id) (λ r. is_within r.key to.now ≡ false)) }
-    ensures keys { IfOk result (λ may. may ≡ true → IfSome (row_of tree.now id) (λ r. StayKeys tree.now r.key to.now)) }
-{
-    if !has_folder(alloc, tree, to)? {
-        return Ok(false);
-    }
-    let Some(from) = tree.key(id) else {
-        return Ok(true);
-    };
-    if !is_apart(alloc, from, to)? {
-        return Ok(false);
-    }
-    keys_stay(alloc, tree, from, to)
-}
-
-fn has_folder(alloc: Global, tree: &Tree, key: &ItemKey) -> Result<bool, AllocError>
-    ensures { IfOk result (λ has. has ≡ true → HasFolder tree.now key.now) }
-{
-    key.rules();
-    let folders = key.folders(alloc)?;
-    if folders.is_empty() {
-        return Ok(true);
-    }
-    Ok(is_folder(tree, &folders[folders.len() - 1]))
-}
-
-fn is_folder(tree: &Tree, key: &ItemKey) -> bool
-    ensures { result ≡ true → IsFolder tree.now key.now }
-{
-    tree.rules();
-    match tree.get(key) {
-        Some(id) => !tree.is_file(id),
-        None => false,
-    }
-}
-
-// Whether a key is neither another one nor beneath it.
-fn is_apart(alloc: Global, from: &ItemKey, to: &ItemKey) -> Result<bool, AllocError>
-    ensures { IfOk result (λ apart. apart ≡ true → is_within from.now to.now ≡ false) }
-{
-    let folders = to.folders(alloc)?;
-    Ok(!same(to, from) && !is_among(&folders, from))
-}
-
-fn same(one: &ItemKey, other: &ItemKey) -> bool
-    ensures { result ≡ same_key one.now other.now }
-{
-    one == other
-}
-
-fn is_among(keys: &[ItemKey], key: &ItemKey) -> bool
-    ensures { result ≡ list_any (λ k. same_key k key.now) keys.now }
-{
-    for one in keys {
-        if same(one, key) {
-            return true;
-        }
-    }
-    false
-}
-
-// Whether all keys at whose front a key stands are keys with another at their front.
-fn keys_stay(alloc: Global, tree: &Tree, from: &ItemKey, to: &ItemKey) -> Result<bool, AllocError>
-    ensures { IfOk result (λ stay. stay ≡ true → StayKeys tree.now from.now to.now) }
-{
-    tree.rules();
-    let whole = from.whole(alloc)?;
-    let to_whole = to.whole(alloc)?;
-    all_stay(
-        alloc,
-        tree,
-        whole.as_str(),
-        to.repo.as_str(),
-        to_whole.as_str(),
-    )
-}
-
-fn all_stay(
-    alloc: Global,
-    tree: &Tree,
-    whole: &str,
-    repo: &str,
-    to_whole: &str,
-) -> Result<bool, AllocError>
-    ensures { IfOk result (λ stay. stay ≡ true → (r : Row) → IsLive tree.now r → (rest : List ℕ) → whole_of r.key ≡ whole.now ++ rest → key_fault repo.now (to_whole.now ++ rest) ≡ None) }
-{
-    tree.rules();
-    for id in tree.all() {
-        let Some(key) = tree.key(*id) else {
-            return Ok(false);
-        };
-        if !stays(alloc, key, whole, repo, to_whole)? {
-            return Ok(false);
-        }
-    }
-    Ok(true)
-}
-
-fn stays(
-    alloc: Global,
-    key: &ItemKey,
-    whole: &str,
-    repo: &str,
-    to_whole: &str,
-) -> Result<bool, AllocError>
-    ensures { IfOk result (λ stays. stays ≡ true → (rest : List ℕ) → whole_of key.now ≡ whole.now ++ rest → key_fault repo.now (to_whole.now ++ rest) ≡ None) }
-{
-    let text = key.whole(alloc)?;
-    match behind(text.as_str(), whole) {
-        Some(rest) => {
-            let new_whole = joined(alloc, to_whole, rest)?;
-            Ok(ItemKey::new(alloc, repo, new_whole.as_str()).is_ok())
-        }
-        None => Ok(true),
-    }
 }
 
 fn compare(rt: &impl Abort, alloc: Global, tree: &Tree, rows: &[Plain]) -> Result<(), AllocError> {
