@@ -15,7 +15,9 @@ def main():
     times = {}
     texts = told([sys.argv[1]]).splitlines()
     for size, shape, text in zip([it for it in SIZES for _ in SHAPES], SHAPES * len(SIZES), texts, strict=True):
-        name, length, read, printed, written = LINE.fullmatch(text).groups()
+        found = LINE.fullmatch(text)
+        check(found, f"a wrong answer: {text}")
+        name, length, read, printed, written = found.groups()
         check(name == shape and size - 200 < int(length) <= size, f"{text}: this is no query of {size} bytes")
         # They are written as they are printed.
         check(printed == length, f"{text}: another query is printed")

@@ -33,7 +33,7 @@ def run(program):
 
 
 def main():
-    runs = [run(sys.argv[1]) for _ in range(3)]
+    runs = [run(sys.argv[1]) for _ in range(1 if "--quick" in sys.argv else 3)]
     times = {name: min(it[name] for it in runs) for name in runs[0]}
     for kind, counts in (("items", ITEMS), ("builds", BUILDS)):
         few, many = counts[0], counts[-1]

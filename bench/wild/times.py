@@ -10,20 +10,20 @@ GROWTH = {"wild": 32, "ant": 32, "one star": 500, "captures": 500}
 LONG = {"one star": 2_000, "ant": 10, "captures": 400}
 # The one text that the pattern fits is that with placeholders.
 ANSWERS = {"wild": "false", "one star": "false", "ant": "false", "captures": "true"}
-LINE = re.compile(r"(\d+) stars on (\d+) times four letters: (.*)")
+PARTS = ", ".join(rf"{name}\D*(?: \d+ letters)? (true|false) (\d+) us" for name in ANSWERS)
+LINE = re.compile(rf"(\d+) stars on (\d+) times four letters: {PARTS}")
 
 
 def run(program):
     """the microseconds of each call by stars and fours, when the answers are right"""
     times = {}
     for text in told([program]).splitlines():
-        stars, fours, rest = LINE.fullmatch(text).groups()
-        row = {}
-        for part in rest.split(", "):
-            name, answer, took = re.fullmatch(r"(wild|one star|ant|captures).* (true|false) (\d+) us", part).groups()
+        found = LINE.fullmatch(text)
+        check(found, f"a wrong answer: {text}")
+        stars, fours, *rest = found.groups()
+        for name, answer in zip(ANSWERS, rest[::2]):
             check(answer == ANSWERS[name], f"{text}: {name} must be {ANSWERS[name]}")
-            row[name] = int(took)
-        times[int(stars), int(fours)] = row
+        times[int(stars), int(fours)] = dict(zip(ANSWERS, map(int, rest[1::2])))
     return times
 
 
