@@ -25,4 +25,5 @@ mod Shifting
 mod Finding
 mod Renaming
 mod Staying
+mod Ordering
 mod Piecing

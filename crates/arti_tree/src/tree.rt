@@ -1,7 +1,9 @@
 // The rows of the tree and the lists that are kept of them.
 ghost use Rattle.std.specs.Prelude.{◌≡◌, ◌≢◌, ◌-◌, ◌&&◌, drop, slice_index_or, IfErr, ◌<◌, ◌≤◌, ◌+◌, ◌^◌, vec_len, vec_capacity, List, [], ◌++◌, length, if◌then◌else◌, map, option_map, IfOk, IfSome, IsSome, OnOk, OnErr, Some, None, true, false};
 ghost use Rattle.std.specs.Option.{option_map_or, is_none, is_some};
-ghost use Rattle.std.specs.List.{filter, find};
+ghost use Rattle.std.specs.List.{concat, filter, find};
+ghost use Rattle.arti_tree.specs.ByKey.{by_key, KeysOnce};
+ghost use Rattle.arti_tree.specs.Pieces.{lists};
 ghost use Rattle.arti_tree.specs.Rows.{Row, ids, row_of, row_at, lies_in, lies_beneath, is_of, rank_of, folder_id, with_row, without_row, may_go, HasFolder, IsFolder, IsLive, IsTree};
 ghost use Rattle.arti_tree.specs.Ids.{AscendFrom};
 ghost use Rattle.arti_tree.specs.Slots.{row_with};
@@ -145,6 +147,14 @@ impl Tree {
         ensures ascend { AscendFrom 0 result.now }
     {
         self.all.as_slice()
+    }
+
+    /// All rows in the default order of their keys, in blocks one behind the other.
+    pub fn ordered(&self) -> &[Vec<u32>]
+        ensures rows { concat (lists result.now) ≡ ids (by_key self.now) }
+        ensures once { KeysOnce self.now }
+    {
+        self.order.blocks()
     }
 
     /// The rows of a repository.
