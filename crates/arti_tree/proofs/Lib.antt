@@ -26,4 +26,5 @@ mod Finding
 mod Renaming
 mod Staying
 mod Ordering
+mod Felling
 mod Piecing

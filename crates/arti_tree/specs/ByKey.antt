@@ -1,5 +1,5 @@
 -- The rows in the default order of their keys.
-use Rattle.std.specs.Prelude.{ℕ, ◌≤◌, List, [], ◌∷◌, ◌++◌}
+use Rattle.std.specs.Prelude.{◌≤◌, List, [], ◌∷◌, ◌++◌}
 use Rattle.std.specs.List.{filter, count_by}
 use Rattle.std.specs.Ordering.{is_lt}
 use Rattle.arti_rows.specs.Key.{key_cmp, same_key, Key}

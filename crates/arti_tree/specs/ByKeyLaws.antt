@@ -1,13 +1,13 @@
 -- The default order of rows as some come, go, or get other keys.
-use Rattle.std.proofs.Common.{◌≡◌, ◌≢◌, ℕ, ◌+◌, ◌<◌, ◌≤◌, Bool, true, false, cond, eqb, List, [], ◌∷◌, ◌++◌, refl, sym, ap, ◌∙◌, subst, arith, Ordering, Less, Equal, Greater}
+use Rattle.std.proofs.Common.{◌≡◌, ℕ, ◌+◌, ◌≤◌, Bool, true, false, cond, eqb, List, [], ◌∷◌, ◌++◌, refl, sym, ap, ◌∙◌, arith, Ordering, Less, Equal, Greater}
 use Rattle.std.specs.Prelude.{All, ◌&&◌, not, nat_lt, map}
 use Rattle.std.specs.List.{filter, count_by}
 use Rattle.std.specs.Ordering.{is_lt}
-use Rattle.std.proofs.lemmas.Bool.{eqb-true, eq-eqb, and_parts, and_from, cases_Bool}
+use Rattle.std.proofs.lemmas.Bool.{eqb-true, eq-eqb, and_parts, and_from}
 use Rattle.std.proofs.lemmas.List.Elements.{All-head, All-tail, All-cons, All-nil, All-append, All-filter, All-weaker, filter_passes}
-use Rattle.std.proofs.lemmas.List.Sums.{sum_by-cons, sum_by-append}
+use Rattle.std.proofs.lemmas.List.Sums.{sum_by-cons}
 use Rattle.arti_rows.specs.Key.{Key, key_of, key_cmp, same_key}
-use Rattle.arti_rows.specs.KeyLaws.{key_cmp-total, key_cmp-Less, key_cmp-Greater, key_cmp-Equal, key_cmp-refl, same_key-Less, same_key-Greater, same_key-Equal, same_key-refl, same_key-true}
+use Rattle.arti_rows.specs.KeyLaws.{key_cmp-total, key_cmp-Less, key_cmp-Greater, key_cmp-Equal, same_key-Greater, same_key-Equal, same_key-refl, same_key-true}
 use Rattle.arti_tree.specs.Rows.{Row, with_row}
 use Rattle.arti_tree.specs.Adds.{with_rows}
 use Rattle.arti_tree.specs.Renames.{is_within, moved_row, moved_whole}

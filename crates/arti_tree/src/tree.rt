@@ -12,7 +12,7 @@ ghost use Rattle.arti_tree.specs.Adds.{is_end, is_missing, is_file_at, keys_adde
 ghost use Rattle.arti_rows.specs.Key.{folders_above, whole_of};
 ghost use Rattle.arti_rows.specs.Names.{key_fault};
 ghost use Rattle.arti_tree.specs.Chains.{CanAdd, Pushes};
-ghost use Rattle.arti_tree.specs.Renames.{AreWithin, is_within, key_for, moved_row, moved_whole, renamed, rename_fault, StayKeys};
+ghost use Rattle.arti_tree.specs.Renames.{AreWithin, is_within, key_for, moved_row, moved_whole, renamed, rename_fault, without_within, StayKeys};
 
 use crate::TreeFault;
 use crate::blocks::Blocks;
@@ -279,6 +279,46 @@ impl Tree {
         }
         self.drop_row(id);
         true
+    }
+
+    /// A row is removed where it is live, and all rows beneath it.
+    pub fn remove_within(&mut self, id: u32) -> bool
+        ensures value { result ≡ is_some (row_of self.old id) }
+        ensures rows { self.new ≡ without_within self.old id }
+    {
+        if self.key(id).is_none() {
+            return false;
+        }
+        self.drop_within(id);
+        true
+    }
+
+    // A live row goes, and all rows beneath it, those beneath it first.
+    fn drop_within(&mut self, id: u32)
+        requires { IsSome (row_of self.old id) }
+        ensures { self.new ≡ without_within self.old id }
+    {
+        self.rules();
+        'inside: while let Some(child) = self.last_inside(id) {
+            self.rules();
+            self.drop_within(child);
+        }
+        self.rules();
+        self.drop_row(id);
+    }
+
+    // The last of the rows that lie in a live one.
+    fn last_inside(&self, id: u32) -> Option<u32>
+        ensures none { result ≡ None → IfSome (row_of self.now id) (λ r. find (lies_in r.key) self.now ≡ None) }
+        ensures some { IfSome result (λ child. IfSome (row_of self.now id) (λ r. option_map_or (lies_in r.key) (row_of self.now child) false ≡ true)) }
+    {
+        self.rules();
+        let key = self.key(id)?;
+        let inside = self.inside(id, key);
+        if inside.is_empty() {
+            return None;
+        }
+        Some(inside[inside.len() - 1])
     }
 
     // Whether a row is live and nothing lies in it.

@@ -1,4 +1,4 @@
-use Rattle.std.proofs.Common.{◌≡◌, List, ap, ◌∙◌, subst}
+use Rattle.std.proofs.Common.{List, ap, ◌∙◌, subst}
 use Rattle.arti_tree.specs.Rows.{Row, ids}
 use Rattle.arti_tree.specs.Slots.{live}
 use Rattle.arti_tree.specs.ByKey.{by_key, KeysOnce}
