@@ -25,4 +25,6 @@ mod Shifting
 mod Finding
 mod Renaming
 mod Staying
+mod Ordering
+mod Felling
 mod Piecing

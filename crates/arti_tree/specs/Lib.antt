@@ -11,3 +11,5 @@ pub mod Renames
 pub mod Shifts
 pub mod Held
 pub mod Pieces
+pub mod ByKey
+pub mod ByKeyLaws

@@ -1,7 +1,7 @@
 -- A row that gets another key, and the rows beneath it with it.
 use Rattle.std.specs.Prelude.{◌≡◌, ℕ, ◌==◌, ◌||◌, ◌&&◌, not, nat_lt, Bool, true, false, if◌then◌else◌, map, drop, List, [], ◌∷◌, ◌++◌, length, Option, Some, None, IsSome}
 use Rattle.std.specs.Option.{option_map_or, is_some}
-use Rattle.std.specs.List.{list_any}
+use Rattle.std.specs.List.{filter, list_any}
 use Rattle.arti_rows.specs.Key.{Key, key_of, whole_of, folders_above, same_key}
 use Rattle.arti_rows.specs.Names.{key_fault}
 use Rattle.arti_tree.specs.declared.fault.TreeFault.{TreeFault}
@@ -27,6 +27,10 @@ moved_row from to r = record { id = r.id; key = moved from to r.key; is_file = r
 -- the rows as one of them gets another key
 abbrev pub renamed : List Row → ℕ → Key → List Row
 renamed rows id to = option_map_or (λ r. map (moved_row r.key to) rows) (row_of rows id) rows
+
+-- the rows without that of an id and those beneath it
+abbrev pub without_within : List Row → ℕ → List Row
+without_within rows id = option_map_or (λ top. filter (λ r. not (is_within top.key r.key)) rows) (row_of rows id) rows
 
 -- why a row is not renamed
 abbrev pub rename_fault : List Row → ℕ → Key → Option TreeFault

@@ -1,6 +1,7 @@
 // A list of ids in blocks, so that an id more or less moves few of the others.
 ghost use Rattle.std.specs.Prelude.{◌≡◌, ◌+◌, ◌<◌, ◌≤◌, ◌^◌, [], length, slice_index, IfOk, OnOk};
-ghost use Rattle.std.specs.List.{insert, remove};
+ghost use Rattle.std.specs.List.{concat, insert, remove};
+ghost use Rattle.arti_tree.specs.Pieces.{lists};
 
 use crate::pieces::{HALF, MOST, count, id_at, insert_at, over_in, ready_at, remove_at, set_aside};
 use std::alloc::{AllocError, Global};
@@ -59,6 +60,13 @@ impl Blocks {
         ensures { result ≡ slice_index self.now.items place }
     {
         id_at(&self.starts, &self.blocks, place)
+    }
+
+    /// The ids, in blocks one behind the other.
+    pub fn blocks(&self) -> &[Vec<u32>]
+        ensures { concat (lists result.now) ≡ self.now.items }
+    {
+        self.blocks.as_slice()
     }
 
     /// An id more, where there is room for one.

@@ -1,7 +1,9 @@
 // The rows of the tree and the lists that are kept of them.
 ghost use Rattle.std.specs.Prelude.{◌≡◌, ◌≢◌, ◌-◌, ◌&&◌, drop, slice_index_or, IfErr, ◌<◌, ◌≤◌, ◌+◌, ◌^◌, vec_len, vec_capacity, List, [], ◌++◌, length, if◌then◌else◌, map, option_map, IfOk, IfSome, IsSome, OnOk, OnErr, Some, None, true, false};
 ghost use Rattle.std.specs.Option.{option_map_or, is_none, is_some};
-ghost use Rattle.std.specs.List.{filter, find};
+ghost use Rattle.std.specs.List.{concat, filter, find};
+ghost use Rattle.arti_tree.specs.ByKey.{by_key, KeysOnce};
+ghost use Rattle.arti_tree.specs.Pieces.{lists};
 ghost use Rattle.arti_tree.specs.Rows.{Row, ids, row_of, row_at, lies_in, lies_beneath, is_of, rank_of, folder_id, with_row, without_row, may_go, HasFolder, IsFolder, IsLive, IsTree};
 ghost use Rattle.arti_tree.specs.Ids.{AscendFrom};
 ghost use Rattle.arti_tree.specs.Slots.{row_with};
@@ -10,7 +12,7 @@ ghost use Rattle.arti_tree.specs.Adds.{is_end, is_missing, is_file_at, keys_adde
 ghost use Rattle.arti_rows.specs.Key.{folders_above, whole_of};
 ghost use Rattle.arti_rows.specs.Names.{key_fault};
 ghost use Rattle.arti_tree.specs.Chains.{CanAdd, Pushes};
-ghost use Rattle.arti_tree.specs.Renames.{AreWithin, is_within, key_for, moved_row, moved_whole, renamed, rename_fault, StayKeys};
+ghost use Rattle.arti_tree.specs.Renames.{AreWithin, is_within, key_for, moved_row, moved_whole, renamed, rename_fault, without_within, StayKeys};
 
 use crate::TreeFault;
 use crate::blocks::Blocks;
@@ -147,6 +149,14 @@ impl Tree {
         self.all.as_slice()
     }
 
+    /// All rows in the default order of their keys, in blocks one behind the other.
+    pub fn ordered(&self) -> &[Vec<u32>]
+        ensures rows { concat (lists result.now) ≡ ids (by_key self.now) }
+        ensures once { KeysOnce self.now }
+    {
+        self.order.blocks()
+    }
+
     /// The rows of a repository.
     pub fn in_repo(&self, repo: &str) -> &[u32]
         ensures rows { result.now ≡ ids (filter (is_of repo.now) self.now) }
@@ -269,6 +279,46 @@ impl Tree {
         }
         self.drop_row(id);
         true
+    }
+
+    /// A row is removed where it is live, and all rows beneath it.
+    pub fn remove_within(&mut self, id: u32) -> bool
+        ensures value { result ≡ is_some (row_of self.old id) }
+        ensures rows { self.new ≡ without_within self.old id }
+    {
+        if self.key(id).is_none() {
+            return false;
+        }
+        self.drop_within(id);
+        true
+    }
+
+    // A live row goes, and all rows beneath it, those beneath it first.
+    fn drop_within(&mut self, id: u32)
+        requires { IsSome (row_of self.old id) }
+        ensures { self.new ≡ without_within self.old id }
+    {
+        self.rules();
+        'inside: while let Some(child) = self.last_inside(id) {
+            self.rules();
+            self.drop_within(child);
+        }
+        self.rules();
+        self.drop_row(id);
+    }
+
+    // The last of the rows that lie in a live one.
+    fn last_inside(&self, id: u32) -> Option<u32>
+        ensures none { result ≡ None → IfSome (row_of self.now id) (λ r. find (lies_in r.key) self.now ≡ None) }
+        ensures some { IfSome result (λ child. IfSome (row_of self.now id) (λ r. option_map_or (lies_in r.key) (row_of self.now child) false ≡ true)) }
+    {
+        self.rules();
+        let key = self.key(id)?;
+        let inside = self.inside(id, key);
+        if inside.is_empty() {
+            return None;
+        }
+        Some(inside[inside.len() - 1])
     }
 
     // Whether a row is live and nothing lies in it.
