@@ -1,8 +1,9 @@
 #!/bin/bash
 # Times a tree of 1,000, 10,000, 100,000 and 1,000,000 files in 64 folders: in nanoseconds for one put of a new key, one look-up
-# by key, one rank and one removal, each over 1,000 of them, and the ratio to the time at 1,000 files. The last figure is
-# memory: what a process with that many files takes more at most than one with half as many, for each file more, which says
-# something from 100,000 files on. It works in a copy, and leaves nothing in the repository.
+# by key, one rank, one removal of a new row and one of an old row, each over 1,000 of them, and the ratio to the time at 1,000
+# files; and in milliseconds for one renaming and one removal of the folder of a 64th of all files, which is old. The last
+# figure is memory: what a process with that many files takes more at most than one with half as many, for each file more, which
+# says something from 100,000 files on. It works in a copy, and leaves nothing in the repository.
 #
 #     bench/tree/run.sh [SIZE..]      other numbers of files
 #     bench/tree/run.sh steps [SIZE..]
@@ -110,6 +111,40 @@ fn remove_all(tree: &mut Tree, ids: &[u32]) -> bool {
     all
 }
 
+// The old ids of these keys, which are no folders.
+fn old_ids(alloc: Global, tree: &Tree) -> io::Result<Vec<u32>> {
+    let keys = keys(alloc, 0, 1_000)?;
+    find_all(alloc, tree, keys.as_slice())
+}
+
+fn folder(alloc: Global, whole: &str) -> io::Result<ItemKey> {
+    match ItemKey::new(alloc, "generic-local", whole) {
+        Ok(key) => Ok(key),
+        Err(_) => Err(failed()),
+    }
+}
+
+// Renames the folder of a 64th of the files.
+fn rename(alloc: Global, tree: &mut Tree) -> io::Result<bool> {
+    let from = folder(alloc, "builds/nightly/7")?;
+    let to = folder(alloc, "builds/seven")?;
+    let Some(id) = tree.get(&from) else {
+        return Ok(false);
+    };
+    if !tree.may_rename(id, &to) {
+        return Ok(false);
+    }
+    Ok(tree.rename(alloc, id, to).is_ok())
+}
+
+fn remove_folder(alloc: Global, tree: &mut Tree) -> io::Result<bool> {
+    let key = folder(alloc, "builds/nightly/8")?;
+    match tree.get(&key) {
+        Some(id) => Ok(tree.remove_within(id)),
+        None => Ok(false),
+    }
+}
+
 fn number(word: Option<String>) -> io::Result<u32> {
     match word {
         Some(word) => match word.as_str().parse::<u32>() {
@@ -158,7 +193,17 @@ fn main(rt: HostRuntime) -> io::Result<()> {
     let start = Instant::now(&rt)?;
     let all = remove_all(&mut tree, ids.as_slice());
     let remove = start.elapsed(&rt)?.as_nanos() / COUNT;
-    println!(rt; "{put} {get} {rank} {remove} {mixed} {all}")
+    let old = old_ids(rt.alloc(), &tree)?;
+    let start = Instant::now(&rt)?;
+    let both = remove_all(&mut tree, old.as_slice()) && all;
+    let remove_old = start.elapsed(&rt)?.as_nanos() / COUNT;
+    let start = Instant::now(&rt)?;
+    let renamed = rename(rt.alloc(), &mut tree)?;
+    let rename = start.elapsed(&rt)?.as_micros();
+    let start = Instant::now(&rt)?;
+    let removed = remove_folder(rt.alloc(), &mut tree)?;
+    let fell = start.elapsed(&rt)?.as_micros();
+    println!(rt; "{put} {get} {rank} {remove} {remove_old} {rename} {fell} {mixed} {both} {renamed} {removed}")
 }
 PROGRAM
 (cd "$times" && rt run -- 1000 > "$copy/built" 2>&1) || { cat "$copy/built"; exit 1; }
@@ -190,7 +235,8 @@ def run(size):
     words = child.stdout.read().split()
     _, status, usage = os.wait4(child.pid, 0)
     assert status == 0, status
-    return [int(word) for word in words[:4]], usage.ru_maxrss * 1024
+    assert words[8:] == ['true'] * 3, words
+    return [int(word) for word in words[:7]], usage.ru_maxrss * 1024
 
 first = None
 for size in ' '.join(sys.argv[2:]).split():
@@ -199,7 +245,8 @@ for size in ' '.join(sys.argv[2:]).split():
         times, memory = run(size)
         best = times if best is None else [min(pair) for pair in zip(best, times)]
     first = first or best
-    parts = [f'{name} {time} ns ({time / base:.1f})' for name, time, base in zip(('put', 'get', 'rank', 'remove'), best, first)]
+    parts = [f'{name} {time} ns ({time / base:.1f})' for name, time, base in zip(('put', 'get', 'rank', 'remove', 'remove old'), best, first)]
+    parts += [f'{name} {time / 1_000:.1f} ms' for name, time in zip(('rename a folder', 'remove a folder'), best[5:])]
     half = int(size) // 2
     _, less = run(str(half))
     print(f'{size} files: {", ".join(parts)}; {(memory - less) // (int(size) - half)} bytes a file', flush=True)
