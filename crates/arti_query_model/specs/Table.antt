@@ -1,5 +1,5 @@
 -- The domains with their fields and relations (after the domains of JFrog's Artifactory Query Language), and the operators that fields take.
-use Rattle.std.specs.Prelude.{ℕ, Bool, true, false, if◌then◌else◌, List, [], ◌∷◌, codes, Option, Some, None}
+use Rattle.std.specs.Prelude.{ℕ, Bool, true, false, ◌||◌, if◌then◌else◌, List, [], ◌∷◌, codes, Option, Some, None}
 use Rattle.std.specs.Str.{bytes_eq}
 use Rattle.arti_aql_parse.specs.declared.query.Op.{Op}
 use Rattle.arti_aql_parse.specs.declared.query.Op.TheVariants.{Eq, Ne, Gt, Gte, Lt, Lte, Match, Nmatch, Before, Last}
@@ -78,21 +78,36 @@ relation_name Module = codes "module"
 relation_name Build = codes "build"
 relation_name Promotion = codes "promotion"
 
+abbrev pub is_equality : Op → Bool
+is_equality Eq = true
+is_equality Ne = true
+is_equality op = false
+
+abbrev pub is_order : Op → Bool
+is_order Gt = true
+is_order Gte = true
+is_order Lt = true
+is_order Lte = true
+is_order op = false
+
+abbrev pub is_pattern : Op → Bool
+is_pattern Match = true
+is_pattern Nmatch = true
+is_pattern op = false
+
+-- how long ago it was
+abbrev pub is_age : Op → Bool
+is_age Before = true
+is_age Last = true
+is_age op = false
+
 -- the operators that a field of this type takes
 unfoldable pub takes : FieldType → Op → Bool
+takes Texts op = is_equality op || is_order op || is_pattern op
+takes Numbers op = is_equality op || is_order op
+takes Dates op = is_equality op || is_order op || is_age op
+takes Kinds op = is_equality op
 takes Lists op = false
-takes type Eq = true
-takes type Ne = true
-takes Kinds op = false
-takes type Gt = true
-takes type Gte = true
-takes type Lt = true
-takes type Lte = true
-takes Texts Match = true
-takes Texts Nmatch = true
-takes Dates Before = true
-takes Dates Last = true
-takes type op = false
 
 -- ---- what a name means
 

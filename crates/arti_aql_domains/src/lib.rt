@@ -1,0 +1,15 @@
+//! The fields and paths that queries name, and the values that they are tested against.
+#![tactic(auto)]
+
+mod faults;
+mod paths;
+mod table;
+mod values;
+
+pub use arti_query_model::{
+    FieldId, FieldType, ItemKind, PropKey, PropTest, Rel, Shown, ShownPart, TypeFault, TypedLit,
+    TypedTest,
+};
+pub use paths::{Target, What, find_target, shown_of};
+pub use table::{field_of, has_properties, is_shown_at_first, relation_name, relation_of, takes};
+pub use values::{kind_of, number_in, value_test};
