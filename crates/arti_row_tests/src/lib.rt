@@ -9,3 +9,5 @@ mod ids;
 mod property_texts;
 #[cfg(test)]
 mod props;
+#[cfg(test)]
+mod repos;
