@@ -1,2 +1,12 @@
 mod Keys
 mod Places
+mod Texts
+mod Caches
+mod Framing
+mod Marking
+mod Fixpoints
+mod Expanding
+mod Ways
+mod Searching
+mod Passing
+mod Growing

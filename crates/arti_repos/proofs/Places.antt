@@ -181,7 +181,7 @@ at_gap rows key at gap =
 
 -- ---- the order after a put
 
-less_by : (o : Ordering) → is_lt o ≡ true → o ≡ Less
+pub less_by : (o : Ordering) → is_lt o ≡ true → o ≡ Less
 less_by Less e = refl
 less_by Equal e = cc
 less_by Greater e = cc
@@ -189,10 +189,10 @@ less_by Greater e = cc
 abbrev Before : RepoDef → RepoDef → Type 0
 Before a b = slice_cmp nat_cmp a.key b.key ≡ Less
 
-heads : (x : RepoDef) (xs : List RepoDef) → AllPairs Before (x ∷ xs) → All (Before x) xs
+pub heads : (x : RepoDef) (xs : List RepoDef) → AllPairs Before (x ∷ xs) → All (Before x) xs
 heads x xs p k d lt = p zero (suc k) d (omega arith) (omega arith)
 
-tails : (x : RepoDef) (xs : List RepoDef) → AllPairs Before (x ∷ xs) → AllPairs Before xs
+pub tails : (x : RepoDef) (xs : List RepoDef) → AllPairs Before (x ∷ xs) → AllPairs Before xs
 tails x xs p i j d lt within = p (suc i) (suc j) d (omega arith) (omega arith)
 
 pairs_append : (xs ys : List RepoDef) → All (λ x. All (Before x) ys) xs → AllPairs Before xs → AllPairs Before ys → AllPairs Before (xs ++ ys)

@@ -22,5 +22,6 @@ IsOld defs met key = (definition defs key ≡ None) ⊎ (was_met defs met key �
 -- the definition of the key is met
 pub record Meets (defs : List RepoDef) (old : List Bool) (key : List ℕ) (d : RepoDef) (new : List Bool) : Type 0 where
   pub is : definition defs key ≡ Some d
+  pub fresh : was_met defs old key ≡ false
   pub met : (k : List ℕ) → was_met defs new k ≡ (was_met defs old k || has_key k d)
   pub owed : owed defs new + length d.members ≡ owed defs old

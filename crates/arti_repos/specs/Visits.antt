@@ -19,17 +19,17 @@ abbrev pub itself : RepoDef → List RepoDef
 itself d = if is_of Virtual d then [] else d ∷ []
 
 -- nothing new
-pub record Stays (defs : List RepoDef) (key : List ℕ) (met : List Bool) (left : List (List ℕ)) (found : List RepoDef) (met' : List Bool) (left' : List (List ℕ)) (found' : List RepoDef) : Type 0 where
-  pub old : IsOld defs met key
-  pub met : met' ≡ met
-  pub left : left' ≡ left
-  pub found : found' ≡ found
+pub record Stays (defs : List RepoDef) (key : List ℕ) (met₀ : List Bool) (left₀ : List (List ℕ)) (found₀ : List RepoDef) (met₁ : List Bool) (left₁ : List (List ℕ)) (found₁ : List RepoDef) : Type 0 where
+  pub old : IsOld defs met₀ key
+  pub met : met₁ ≡ met₀
+  pub left : left₁ ≡ left₀
+  pub found : found₁ ≡ found₀
 
 -- a definition that wasn't met before
-pub record Enters (defs : List RepoDef) (key : List ℕ) (d : RepoDef) (met : List Bool) (left : List (List ℕ)) (found : List RepoDef) (met' : List Bool) (left' : List (List ℕ)) (found' : List RepoDef) : Type 0 where
-  pub meets : Meets defs met key d met'
-  pub left : left' ≡ coming d ++ left
-  pub found : found' ≡ found ++ itself d
+pub record Enters (defs : List RepoDef) (key : List ℕ) (d : RepoDef) (met₀ : List Bool) (left₀ : List (List ℕ)) (found₀ : List RepoDef) (met₁ : List Bool) (left₁ : List (List ℕ)) (found₁ : List RepoDef) : Type 0 where
+  pub meets : Meets defs met₀ key d met₁
+  pub left : left₁ ≡ coming d ++ left₀
+  pub found : found₁ ≡ found₀ ++ itself d
 
 abbrev pub Visits : List RepoDef → List ℕ → List Bool → List (List ℕ) → List RepoDef → List Bool → List (List ℕ) → List RepoDef → Type 0
 Visits defs key met left found met' left' found' = Stays defs key met left found met' left' found' ⊎ ((d : RepoDef) × Enters defs key d met left found met' left' found')

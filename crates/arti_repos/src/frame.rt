@@ -37,7 +37,7 @@ pub(crate) fn next_member<'a>(frames: &mut Vec<Frame<'a>>) -> Option<&'a str>
 // The first member that is left, and the others as a frame again: there is room, since one was just taken off.
 fn resume<'a>(frames: &mut Vec<Frame<'a>>, frame: Frame<'a>) -> Option<&'a str>
     requires room { vec_len frames.old < vec_capacity frames.old }
-    ensures { MatchOption result ((frame.rest.now ≡ []) × (frames.new.items ≡ frames.old.items)) (λ member. Takes (frames.old.items ++ frame ∷ []) member.now frames.new.items) }
+    ensures { MatchOption result ((frame.entry.rest.now ≡ []) × (frames.new.items ≡ frames.old.items)) (λ member. Takes (frames.old.items ++ frame.entry ∷ []) member.now frames.new.items) }
 {
     match frame.rest.split_first() {
         None => None,
@@ -50,7 +50,7 @@ fn resume<'a>(frames: &mut Vec<Frame<'a>>, frame: Frame<'a>) -> Option<&'a str>
 
 fn put_back<'a>(frames: &mut Vec<Frame<'a>>, key: &'a str, rest: &'a [Text])
     requires room { vec_len frames.old < vec_capacity frames.old }
-    ensures { frames.new.items ≡ frames.old.items ++ record { key = key; rest = rest } ∷ [] }
+    ensures { frames.new.items ≡ frames.old.items ++ record { key = key.entry; rest = rest.entry } ∷ [] }
 {
     match frames.push(Frame { key, rest }) {
         Ok(()) => {}

@@ -1,5 +1,5 @@
 // Why a definition is refused: the first reason in this order.
-ghost use Rattle.std.specs.Prelude.{◌≡◌, ◌≢◌, None, Some, IfOk, IfErr, OnOk};
+ghost use Rattle.std.specs.Prelude.{◌≡◌, ◌≢◌, true, false, None, Some, IfOk, IfErr, OnOk};
 ghost use Rattle.arti_rows.specs.declared.rows.Class.TheVariants.{Local, Remote};
 ghost use Rattle.arti_repos.specs.Definitions.{InOrder, is_of, same_class, is_defined};
 ghost use Rattle.arti_repos.specs.Ranks.{IsAcyclic};
