@@ -1,5 +1,5 @@
 -- A definition more, or another in its stead, that doesn't lead back to itself.
-use Rattle.std.proofs.Common.{◌≡◌, ℕ, suc, ◌+◌, ◌<◌, ◌≤◌, Bool, true, false, cond, List, [], ◌∷◌, ◌++◌, length, refl, sym, ap, subst, ◌∙◌, arith, Ordering, Less, Equal, Greater, Option, Some, None}
+use Rattle.std.proofs.Common.{◌≡◌, ℕ, suc, ◌+◌, ◌<◌, ◌≤◌, Bool, true, false, cond, List, [], ◌∷◌, ◌++◌, length, get_or, refl, sym, ap, subst, ◌∙◌, arith, Ordering, Less, Equal, Greater, Option, Some, None}
 use Rattle.std.specs.Prelude.{All, filter, is_some}
 use Rattle.std.specs.Option.{option_map, option_or, option_map_or}
 use Rattle.std.specs.List.{find}
@@ -106,16 +106,16 @@ module _ (defs : List RepoDef) (d : RepoDef) (rank : List ℕ → ℕ) (falls : 
   new_rank k = lifted (bytes_eq k d.key) (is_some (ways k)) (rank k)
 
   target_leads : (m : List ℕ) → bytes_eq m d.key ≡ true → ways m ≡ None → ⊥
-  target_leads m here no =
+  target_leads m here none_here =
       let way : ways m ≡ Some (m ∷ []) = way_is defs rank d.key falls m ∙ ap (λ b. cond b (Some (m ∷ [])) (option_map (λ way. m ∷ way) (first_way ways (members_of defs m)))) here in cc
 
   -- one that doesn't lead there keeps its rank
   stays_by : (m : List ℕ) (b : Bool) → bytes_eq m d.key ≡ b → ways m ≡ None → new_rank m ≡ rank m
-  stays_by m true e no = absurd (target_leads m e no)
-  stays_by m false e no = ap (λ b. lifted b (is_some (ways m)) (rank m)) e ∙ ap (λ (o : Way). lifted false (is_some o) (rank m)) no
+  stays_by m true e none_here = absurd (target_leads m e none_here)
+  stays_by m false e none_here = ap (λ b. lifted b (is_some (ways m)) (rank m)) e ∙ ap (λ (o : Way). lifted false (is_some o) (rank m)) none_here
 
   stays : (m : List ℕ) → ways m ≡ None → new_rank m ≡ rank m
-  stays m no = stays_by m (bytes_eq m d.key) refl no
+  stays m none_here = stays_by m (bytes_eq m d.key) refl none_here
 
   at_most : (b l : Bool) (n : ℕ) → lifted b l n < n + suc (suc its_rank)
   at_most true l n = omega arith
@@ -125,26 +125,29 @@ module _ (defs : List RepoDef) (d : RepoDef) (rank : List ℕ → ℕ) (falls : 
   own : All (λ m. new_rank m < its_rank) d.members
   own =
       λ i e lt.
-      let no : ways _ ≡ None = all_none ways d.members (unmapped d.key (first_way ways d.members) none) i e lt in
+      let m = get_or d.members i e in
+      let none_here : ways m ≡ None = all_none ways d.members (unmapped d.key (first_way ways d.members) none) i e lt in
       let low = below_top rank d.members i e lt in
-      let same = stays _ no in omega (arith, low, same)
+      let same = stays m none_here in omega (arith, low, same)
 
   way_by_none : (k : List ℕ) → bytes_eq k d.key ≡ false → ways k ≡ None → first_way ways (members_of defs k) ≡ None
-  way_by_none k other no =
-      unmapped k (first_way ways (members_of defs k)) (sym (way_is defs rank d.key falls k ∙ ap (λ b. cond b (Some (k ∷ [])) (option_map (λ way. k ∷ way) (first_way ways (members_of defs k)))) other) ∙ no)
+  way_by_none k other none_here =
+      unmapped k (first_way ways (members_of defs k)) (sym (way_is defs rank d.key falls k ∙ ap (λ b. cond b (Some (k ∷ [])) (option_map (λ way. k ∷ way) (first_way ways (members_of defs k)))) other) ∙ none_here)
 
   others_by : (k : List ℕ) (o : Way) → bytes_eq k d.key ≡ false → ways k ≡ o → All (λ m. new_rank m < new_rank k) (members_of defs k)
   others_by k None other is =
       λ i e lt.
-      let no : ways _ ≡ None = all_none ways (members_of defs k) (way_by_none k other is) i e lt in
+      let m = get_or (members_of defs k) i e in
+      let none_here : ways m ≡ None = all_none ways (members_of defs k) (way_by_none k other is) i e lt in
       let low = falls k i e lt in
-      let same = stays _ no in
+      let same = stays m none_here in
       let kept = stays k is in omega (arith, low, same, kept)
   others_by k (Some way) other is =
       λ i e lt.
+      let m = get_or (members_of defs k) i e in
       let low = falls k i e lt in
       let high : new_rank k ≡ rank k + suc its_rank = ap (λ b. lifted b (is_some (ways k)) (rank k)) other ∙ ap (λ (o : Way). lifted false (is_some o) (rank k)) is in
-      let most = at_most (bytes_eq _ d.key) (is_some (ways _)) (rank _) in omega (arith, low, high, most)
+      let most = at_most (bytes_eq m d.key) (is_some (ways m)) (rank m) in omega (arith, low, high, most)
 
   falls_by : (k : List ℕ) (b : Bool) → has_key k d ≡ b → All (λ m. new_rank m < new_rank k) (members_of (put_definition d defs) k)
   falls_by k true is =

@@ -10,3 +10,4 @@ mod Ways
 mod Searching
 mod Passing
 mod Growing
+mod Faults

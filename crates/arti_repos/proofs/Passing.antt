@@ -94,10 +94,10 @@ module _ (defs : List RepoDef) (root : List ℕ) where
   seen_shown rank found k ps s = ⊎_elim (λ all. all) (λ h. absurd (omega (arith, h.0))) s
 
   -- what is found and what is left make up the whole, and those that were met are found already
-  pub record Walked (met : List Bool) (left : List (List ℕ)) (found : List RepoDef) : Type 0 where
+  pub record Walked (flags : List Bool) (left : List (List ℕ)) (found : List RepoDef) : Type 0 where
     pub whole : found ++ firsts found (flat_map those left) ≡ leaves defs root
-    pub known : (k : List ℕ) → has found k ≡ true → was_met defs met k ≡ true
-    pub met : (rank : List ℕ → ℕ) → IsRank defs rank → (k : List ℕ) → was_met defs met k ≡ true → Shown rank found k left
+    pub known : (k : List ℕ) → has found k ≡ true → was_met defs flags k ≡ true
+    pub met : (rank : List ℕ → ℕ) → IsRank defs rank → (k : List ℕ) → was_met defs flags k ≡ true → Shown rank found k left
 
   pub begun : (met : List Bool) → All (λ b. b ≡ false) met → Walked met (root ∷ []) []
   begun met none = record {

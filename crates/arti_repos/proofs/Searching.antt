@@ -53,15 +53,15 @@ module _ (defs : List RepoDef) (d : RepoDef) where
   next_fails rank k m ps none f = ⊎_elim (λ done. fails_done rank k ps done) (λ h. h.1 none) f
 
   -- the frames lead as the definition does, and those that were met lead nowhere else
-  pub record Searching (frames : List Frame) (met : List Bool) : Type 0 where
-    pub count : length met ≡ length defs
-    pub led : led ways frames ≡ cycle defs d
-    pub met : (rank : List ℕ → ℕ) → IsRank defs rank → (k : List ℕ) → was_met defs met k ≡ true → Fails rank k (pending frames)
+  pub record Searching (frames : List Frame) (flags : List Bool) : Type 0 where
+    pub count : length flags ≡ length defs
+    pub leads : led ways frames ≡ cycle defs d
+    pub met : (rank : List ℕ → ℕ) → IsRank defs rank → (k : List ℕ) → was_met defs flags k ≡ true → Fails rank k (pending frames)
 
   pub begun : (f : Frame) (met : List Bool) → f.key.now ≡ d.key → f.rest.now ≡ d.members → length met ≡ length defs → All (λ b. b ≡ false) met → Searching (f ∷ []) met
   begun f met key rest long none = record {
     count = long;
-    led = ap (λ (k : List ℕ). option_map (λ way. k ∷ way) (first_way ways f.rest.now)) key ∙ ap (λ (l : List (List ℕ)). option_map (λ way. d.key ∷ way) (first_way ways l)) rest;
+    leads = ap (λ (k : List ℕ). option_map (λ way. k ∷ way) (first_way ways f.rest.now)) key ∙ ap (λ (l : List (List ℕ)). option_map (λ way. d.key ∷ way) (first_way ways l)) rest;
     met = λ rank falls k was. absurd (false≢true (sym (none_was defs met k none) ∙ was));
   }
 
@@ -70,7 +70,7 @@ module _ (defs : List RepoDef) (d : RepoDef) where
     pub arrived : (frames left : List Frame) (met : List Bool) (m : List ℕ) → Searching frames met → Takes frames m left → bytes_eq m d.key ≡ true → Some (path_of left ++ m ∷ []) ≡ cycle defs d
     arrived frames left met m s t here =
         let way : ways m ≡ Some (m ∷ []) = way_is defs rank d.key falls m ∙ ap (λ b. cond b (Some (m ∷ [])) (option_map (λ way. m ∷ way) (first_way ways (members_of defs m)))) here in
-        sym (ap (λ (o : Way). option_or (option_map (λ way. path_of left ++ way) o) (led ways left)) way) ∙ sym (t.led ways) ∙ s.led
+        sym (ap (λ (o : Way). option_or (option_map (λ way. path_of left ++ way) o) (led ways left)) way) ∙ sym (t.led ways) ∙ s.leads
 
     through : (m : List ℕ) → bytes_eq m d.key ≡ false → ways m ≡ option_map (λ way. m ∷ way) (first_way ways (members_of defs m))
     through m other = way_is defs rank d.key falls m ∙ ap (λ b. cond b (Some (m ∷ [])) (option_map (λ way. m ∷ way) (first_way ways (members_of defs m)))) other
@@ -84,7 +84,7 @@ module _ (defs : List RepoDef) (d : RepoDef) where
     passed frames left met m s t other old =
         let none : ways m ≡ None = old_fails met m (pending left) other old (λ was. subst (Fails rank m) t.pending (s.met rank falls m was)) in record {
           count = s.count;
-          led = sym (t.led ways ∙ ap (λ (o : Way). option_or (option_map (λ way. path_of left ++ way) o) (led ways left)) none) ∙ s.led;
+          leads = sym (t.led ways ∙ ap (λ (o : Way). option_or (option_map (λ way. path_of left ++ way) o) (led ways left)) none) ∙ s.leads;
           met = λ r f k was. next_fails r k m (pending left) none (subst (Fails r k) t.pending (s.met r f k was));
         }
 
@@ -98,13 +98,13 @@ module _ (defs : List RepoDef) (d : RepoDef) where
         let left_is : pending (left ++ f ∷ []) ≡ e.members ++ pending left = pending_end left f ∙ ap (λ (l : List (List ℕ)). l ++ pending left) rest in
         let fails : first_way ways e.members ≡ None → ways m ≡ None = λ none. way ∙ ap (option_map (λ w. m ∷ w)) none in record {
           count = long;
-          led =
+          leads =
               led_end ways left f
               ∙ ap (λ (k : List ℕ). option_or (option_map (λ w. path_of left ++ k ∷ w) (first_way ways f.rest.now)) (led ways left)) (key ∙ its)
               ∙ ap (λ (l : List (List ℕ)). option_or (option_map (λ w. path_of left ++ m ∷ w) (first_way ways l)) (led ways left)) rest
               ∙ ap (λ (o : Way). option_or o (led ways left)) (map_twice (path_of left) m (first_way ways e.members))
               ∙ ap (λ (o : Way). option_or (option_map (λ w. path_of left ++ w) o) (led ways left)) (sym way)
-              ∙ sym (t.led ways) ∙ s.led;
+              ∙ sym (t.led ways) ∙ s.leads;
           met = λ r g k was.
               let falling : All (λ j. r j < r m) e.members = subst (All (λ j. r j < r m)) members (g m) in
               subst (Fails r k) (sym left_is)
@@ -117,7 +117,7 @@ module _ (defs : List RepoDef) (d : RepoDef) where
         }
 
   pub ended : (frames : List Frame) (met : List Bool) → Searching frames met → IsDone frames → None ≡ cycle defs d
-  ended frames met s done = sym (done.led ways) ∙ s.led
+  ended frames met s done = sym (done.led ways) ∙ s.leads
 
   pub passed_less : (frames left : List Frame) (met : List Bool) (m : List ℕ) → Takes frames m left → owed defs met + length (pending left) < owed defs met + length (pending frames)
   passed_less frames left met m t = let long : length (pending frames) ≡ length (m ∷ pending left) = ap length t.pending in omega (arith, long)
