@@ -2,7 +2,6 @@
 use Rattle.std.proofs.Common.{◌≡◌, ℕ, Bool, List, refl, Option, Some, None}
 use Rattle.std.specs.Option.{option_map, option_or}
 use Rattle.arti_rows.specs.declared.rows.RepoDef.{RepoDef}
-use Rattle.arti_repos.specs.declared.fault.RepoFault.{RepoFault}
 use Rattle.arti_repos.specs.declared.fault.RepoFault.TheVariants.{Cycle}
 use Rattle.arti_repos.specs.Cycles.{cycle}
 use Rattle.arti_repos.specs.Refused.{key_fault, class_fault, member_fault, cycle_fault, default_fault, count_fault, define_fault}

@@ -1,12 +1,10 @@
 -- What is computed by going through members, so many levels deep: where ranks fall, as many levels as there are definitions
 -- are enough.
-use Rattle.std.proofs.Common.{◌≡◌, ℕ, zero, suc, ◌+◌, ◌<◌, ◌≤◌, Bool, true, false, List, [], ◌∷◌, length, refl, sym, ap, ◌∙◌, arith, Option, Some, None}
+use Rattle.std.proofs.Common.{◌≡◌, ℕ, zero, suc, ◌<◌, ◌≤◌, Bool, true, false, List, [], ◌∷◌, length, refl, sym, ap, ◌∙◌, arith, Option, Some, None}
 use Rattle.std.specs.Prelude.{filter, not}
-use Rattle.std.specs.Str.{bytes_eq}
-use Rattle.std.proofs.lemmas.Bool.{false≢true}
 use Rattle.arti_rows.specs.declared.rows.RepoDef.{RepoDef}
 use Rattle.arti_repos.specs.Definitions.{has_key, definition}
-use Rattle.arti_repos.proofs.Texts.{eq_text, text_eq, find_kept, shorter}
+use Rattle.arti_repos.proofs.Texts.{eq_text, find_kept, shorter}
 
 not_by : (b : Bool) → (b ≡ true → ⊥) → not b ≡ true
 not_by true h = absurd (h refl)

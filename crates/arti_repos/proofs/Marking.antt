@@ -1,12 +1,12 @@
 -- A definition that is met.
-use Rattle.std.proofs.Common.{◌≡◌, ℕ, zero, suc, ◌+◌, ◌<◌, Bool, true, false, cond, List, [], ◌∷◌, length, get_or, set, take, drop, refl, subst, ◌⊎◌, inl, inr, add-one, Option, Some, None, Bor, sym, ap, ◌∙◌, arith}
+use Rattle.std.proofs.Common.{◌≡◌, ℕ, zero, suc, ◌+◌, ◌<◌, Bool, true, false, cond, List, [], ◌∷◌, length, get_or, set, take, drop, refl, subst, inr, add-one, Option, Some, None, Bor, sym, ap, ◌∙◌, arith}
 use Rattle.std.specs.Prelude.{All, ◌&&◌, ◌||◌, MatchOption}
 use Rattle.std.specs.Ordering.{nat_cmp}
 use Rattle.std.specs.Cmp.Lexicographic.{slice_cmp}
 use Rattle.std.specs.declared.cmp.Ordering.TheVariants.{Less}
 use Rattle.std.proofs.lemmas.List.Elements.{All-head, All-tail, All-weaker}
 use Rattle.arti_rows.specs.declared.rows.RepoDef.{RepoDef}
-use Rattle.arti_repos.specs.Definitions.{has_key, definition}
+use Rattle.arti_repos.specs.Definitions.{has_key}
 use Rattle.arti_repos.specs.Met.{was_met, owed, IsOld, Meets}
 use Rattle.arti_repos.specs.Places.{IsPlace}
 use Rattle.arti_repos.proofs.Keys.{same_at_equal, other_at_less, other_at_greater}

@@ -1,5 +1,5 @@
 -- The walk over the keys that are still to be looked at.
-use Rattle.std.proofs.Common.{◌≡◌, ℕ, ◌+◌, ◌<◌, Bool, true, false, cond, List, [], ◌∷◌, ◌++◌, length, length-append, append_assoc, refl, sym, ap, subst, ◌∙◌, arith, ◌⊎◌, inl, inr, ⊎_elim, Option, Some, None}
+use Rattle.std.proofs.Common.{◌≡◌, ℕ, ◌+◌, ◌<◌, Bool, true, false, cond, List, [], ◌∷◌, ◌++◌, length, length-append, append_assoc, refl, sym, ap, subst, ◌∙◌, arith, ◌⊎◌, inl, inr, ⊎_elim, Option, Some}
 use Rattle.std.specs.Prelude.{All, ◌||◌}
 use Rattle.std.specs.Option.{option_map_or}
 use Rattle.std.specs.List.{flat_map, list_any}
@@ -10,12 +10,12 @@ use Rattle.std.proofs.lemmas.List.Folds.{list_any-append}
 use Rattle.std.proofs.lemmas.List.Elements.{All-nil, All-cons, All-head, All-tail, All-weaker}
 use Rattle.arti_rows.specs.declared.rows.Class.TheVariants.{Virtual}
 use Rattle.arti_rows.specs.declared.rows.RepoDef.{RepoDef}
-use Rattle.arti_repos.specs.Definitions.{is_of, has_key, definition}
+use Rattle.arti_repos.specs.Definitions.{is_of, has_key}
 use Rattle.arti_repos.specs.Walks.{expanded, expand, firsts, leaves}
 use Rattle.arti_repos.specs.Cycles.{members_of}
 use Rattle.arti_repos.specs.Ranks.{IsRank}
 use Rattle.arti_repos.specs.Met.{was_met, owed, IsOld, Meets}
-use Rattle.arti_repos.specs.Visits.{coming, itself, Stays, Enters, Visits}
+use Rattle.arti_repos.specs.Visits.{coming, itself, Visits}
 use Rattle.arti_repos.proofs.Texts.{eq_text, text_eq, found_passes, or_true, or_front}
 use Rattle.arti_repos.proofs.Marking.{none_was}
 use Rattle.arti_repos.proofs.Expanding.{expand_is}
@@ -87,8 +87,10 @@ module _ (defs : List RepoDef) (root : List ℕ) where
   shown_more : (rank : List ℕ → ℕ) (found : List RepoDef) (k : List ℕ) (ms ps : List (List ℕ)) → All (λ m. rank m < rank k) ms → Shown rank (found ++ flat_map those ms) k ps → Shown rank found k (ms ++ ps)
   shown_more rank found k [] ps all s = subst (λ (l : List RepoDef). Shown rank l k ps) (append-nil found) s
   shown_more rank found k (m ∷ ms) ps all s =
-      inr (All-head (λ j. rank j < rank k) m ms all,
-      shown_more rank (found ++ those m) k ms ps (All-tail (λ j. rank j < rank k) m ms all) (subst (λ (l : List RepoDef). Shown rank l k ps) (sym (append_assoc found (those m) (flat_map those ms))) s))
+      inr (
+        All-head (λ j. rank j < rank k) m ms all,
+        shown_more rank (found ++ those m) k ms ps (All-tail (λ j. rank j < rank k) m ms all) (subst (λ (l : List RepoDef). Shown rank l k ps) (sym (append_assoc found (those m) (flat_map those ms))) s),
+      )
 
   seen_shown : (rank : List ℕ → ℕ) (found : List RepoDef) (k : List ℕ) (ps : List (List ℕ)) → Shown rank found k (k ∷ ps) → AllIn found (those k)
   seen_shown rank found k ps s = ⊎_elim (λ all. all) (λ h. absurd (omega (arith, h.0))) s

@@ -1,12 +1,12 @@
 -- Where definitions stand among others, and what is put there.
-use Rattle.std.proofs.Common.{◌≡◌, ℕ, ◌+◌, ◌<◌, ◌≤◌, zero, suc, Bool, true, false, cond, List, [], ◌∷◌, ◌++◌, length, get_or, take, drop, refl, sym, ap, subst, ◌∙◌, arith, Ordering, Less, Equal, Greater, ⊎_elim, length-take, length-drop, set, drop-cons, add-one, Option, Some, None, Vec, Global}
-use Rattle.std.specs.Prelude.{All, filter, map, IfOk, IfErr, Result, Ok, Err, ◌&&◌, ◌||◌, is_some}
-use Rattle.std.specs.List.{AllPairs, HoldsAt, insert, find, list_any}
+use Rattle.std.proofs.Common.{◌≡◌, ℕ, ◌+◌, ◌<◌, ◌≤◌, zero, suc, Bool, true, false, cond, List, [], ◌∷◌, ◌++◌, length, get_or, take, drop, refl, sym, ap, subst, ◌∙◌, arith, Ordering, Less, Equal, Greater, ⊎_elim, length-take, length-drop, set, drop-cons, add-one, Some, None}
+use Rattle.std.specs.Prelude.{All, filter, IfOk, IfErr, Result, Ok, Err}
+use Rattle.std.specs.List.{AllPairs, HoldsAt, insert, find}
 use Rattle.std.specs.List.Sorted.{IsNonDecreasingBy, IsPartitionPoint, IsBinarySearchResult, IsSearchInRange}
 use Rattle.std.specs.Ordering.{is_lt, ordering_index}
 use Rattle.std.proofs.lemmas.Cmp.{tied_back, alike_right}
 use Rattle.std.proofs.lemmas.Bool.{cases_eq}
-use Rattle.std.proofs.lemmas.List.{get_or-take, get_or-drop, take-append-drop, append-nil, set_split, map-append, get_or-map, length-map}
+use Rattle.std.proofs.lemmas.List.{get_or-take, get_or-drop, take-append-drop, append-nil, set_split}
 use Rattle.std.proofs.lemmas.List.Elements.{All-head, All-tail, All-cons, All-append, All-weaker, filter-append, filter_passes}
 use Rattle.std.proofs.lemmas.List.Kept.{AllPairs-cons, AllPairs-filter}
 use Rattle.std.specs.Ordering.{nat_cmp}

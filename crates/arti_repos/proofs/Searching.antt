@@ -7,8 +7,8 @@ use Rattle.std.proofs.lemmas.Bool.{false≢true}
 use Rattle.std.proofs.lemmas.List.Elements.{All-head, All-tail, All-weaker}
 use Rattle.arti_rows.specs.declared.rows.RepoDef.{RepoDef}
 use Rattle.arti_repos.specs.declared.frame.Frame.{Frame}
-use Rattle.arti_repos.specs.Definitions.{has_key, definition}
-use Rattle.arti_repos.specs.Cycles.{members_of, first_way, way_by, way_to, cycle}
+use Rattle.arti_repos.specs.Definitions.{has_key}
+use Rattle.arti_repos.specs.Cycles.{members_of, first_way, way_to, cycle}
 use Rattle.arti_repos.specs.Ranks.{IsRank}
 use Rattle.arti_repos.specs.Frames.{pending, led, path_of, IsDone, Takes}
 use Rattle.arti_repos.specs.Met.{was_met, owed, IsOld, Meets}

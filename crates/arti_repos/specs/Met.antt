@@ -1,5 +1,5 @@
 -- Which definitions were met, by their places.
-use Rattle.std.specs.Prelude.{◌≡◌, ◌⊎◌, Option, Some, None, ℕ, ◌+◌, Bool, true, false, ◌&&◌, ◌||◌, if◌then◌else◌, List, [], ◌∷◌, length}
+use Rattle.std.specs.Prelude.{◌≡◌, ◌⊎◌, Some, None, ℕ, ◌+◌, Bool, true, false, ◌&&◌, ◌||◌, if◌then◌else◌, List, [], ◌∷◌, length}
 use Rattle.arti_rows.specs.declared.rows.RepoDef.{RepoDef}
 use Rattle.arti_repos.specs.Definitions.{has_key, definition}
 

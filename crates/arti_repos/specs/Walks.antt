@@ -1,6 +1,6 @@
 -- Where a repository's items are looked for, and what its patterns let through.
-use Rattle.std.specs.Prelude.{◌≡◌, ℕ, zero, suc, Bool, true, false, not, ◌&&◌, if◌then◌else◌, List, [], ◌∷◌, ◌++◌, length, map, codes, filter, Option, Some, None}
-use Rattle.std.specs.Option.{option_map, option_or, option_map_or}
+use Rattle.std.specs.Prelude.{ℕ, zero, suc, Bool, false, not, ◌&&◌, if◌then◌else◌, List, [], ◌∷◌, ◌++◌, length, map, codes, filter, Option, Some, None}
+use Rattle.std.specs.Option.{option_or, option_map_or}
 use Rattle.std.specs.List.{flat_map, list_any}
 use Rattle.arti_wild.specs.Ant.{ant_path}
 use Rattle.arti_rows.specs.declared.rows.Class.{Class}

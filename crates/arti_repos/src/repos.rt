@@ -1,9 +1,10 @@
 // The definitions of repositories.
-ghost use Rattle.std.specs.Prelude.{◌≡◌, ◌≢◌, [], None, Some, IfOk, IfErr, OnOk, OnErr};
+ghost use Rattle.std.specs.Prelude.{◌≡◌, ◌≢◌, ℕ, List, [], length, None, Some, IfOk, IfErr, OnOk, OnErr};
 ghost use Rattle.std.specs.Option.{option_map, option_copied};
 ghost use Rattle.arti_repos.specs.Definitions.{InOrder, definition, is_cache, put_definition};
 ghost use Rattle.arti_repos.specs.Ranks.{IsAcyclic};
-ghost use Rattle.arti_repos.specs.Walks.{walk, behind, admits, lets_through, includes, target_of, deploy_to};
+ghost use Rattle.arti_repos.specs.Cycles.{way_to, way_by};
+ghost use Rattle.arti_repos.specs.Walks.{walk, expand, expanded, behind, admits, lets_through, includes, target_of, deploy_to};
 ghost use Rattle.arti_repos.specs.Refused.{define_fault};
 
 use crate::definitions::{cached_by, find, put};
@@ -42,6 +43,17 @@ impl Repos {
         Repos {
             definitions: Vec::new(alloc),
         }
+    }
+
+    /// What holds of the definitions: none leads back to itself, so that as many levels as there are definitions are enough
+    /// for what a key stands for and for its ways.
+    pub fn rules(&self)
+        ensures order { InOrder self.now }
+        ensures acyclic { IsAcyclic self.now }
+        ensures expands { (key : List ℕ) → expand (length self.now) self.now key ≡ expanded (λ member. expand (length self.now) self.now member) (definition self.now key) }
+        ensures leads { (target key : List ℕ) → way_to (length self.now) self.now target key ≡ way_by (λ member. way_to (length self.now) self.now target member) self.now target key }
+    {
+        let _ = &self.definitions;
     }
 
     /// The definition of a key.

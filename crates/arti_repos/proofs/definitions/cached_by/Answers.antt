@@ -1,4 +1,4 @@
-use Rattle.std.proofs.Common.{sym, ap, ◌∙◌, rules, codes}
+use Rattle.std.proofs.Common.{ap, ◌∙◌, rules, codes}
 use Rattle.arti_repos.specs.Definitions.{remote_of}
 use Rattle.arti_repos.proofs.Caches.{cached, uncached, front_by, none_by}
 use Rattle.arti_repos.proofs.definitions.cached_by.Goals as goal

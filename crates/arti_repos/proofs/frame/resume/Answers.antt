@@ -1,4 +1,4 @@
-use Rattle.std.proofs.Common.{◌≡◌, ℕ, List, ◌∷◌, ◌++◌, [], refl, sym, ap, subst, ◌∙◌, rules}
+use Rattle.std.proofs.Common.{◌≡◌, ℕ, List, ◌∷◌, ◌++◌, [], refl, sym, ap, subst, ◌∙◌}
 use Rattle.arti_repos.specs.declared.frame.Frame.{Frame}
 use Rattle.arti_repos.specs.Frames.{Takes}
 use Rattle.arti_repos.proofs.Framing.{takes_member}

@@ -1,5 +1,4 @@
-use Rattle.std.proofs.Common.{ℕ, List, [], sym, subst, arith}
-use Rattle.arti_rows.specs.declared.rows.RepoDef.{RepoDef}
+use Rattle.std.proofs.Common.{[], sym, subst, arith}
 use Rattle.arti_repos.specs.Definitions.{InOrder}
 use Rattle.arti_repos.specs.Ranks.{IsAcyclic}
 use Rattle.arti_repos.proofs.repos.Repos.new.Goals as goal
