@@ -10,4 +10,6 @@ mod property_texts;
 #[cfg(test)]
 mod props;
 #[cfg(test)]
+mod repos;
+#[cfg(test)]
 mod tree;
