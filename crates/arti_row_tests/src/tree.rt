@@ -20,6 +20,7 @@ enum Answer {
     Full,
     Memory,
     Removed,
+    Gone(usize),
     Moved(usize),
     Barred,
     Stays,
@@ -29,6 +30,7 @@ enum Answer {
 enum Step {
     Put(bool, u32),
     Remove,
+    RemoveWithin,
     Rename(&'static str, &'static str),
 }
 
@@ -57,11 +59,18 @@ fn each_list_is_that_of_plain_rows(rt: HostRuntime) -> Result<(), Fail> {
         (Step::Remove, "a", "x", Answer::Removed),
         (Step::Put(true, 8), "a", "y/z", Answer::Full),
         (Step::Put(true, 9), "a", "y/z", Answer::Added(2)),
+        (Step::RemoveWithin, "b", "f/g-", Answer::Gone(2)),
+        (Step::RemoveWithin, "b", "f/g-", Answer::Stays),
+        (Step::RemoveWithin, "c", "p/q/r", Answer::Gone(1)),
+        (Step::RemoveWithin, "b", "f", Answer::Gone(2)),
+        (folder, "c", "p/q/s", Answer::Added(1)),
+        (Step::RemoveWithin, "c", "p", Answer::Gone(3)),
     ] {
         let key = ItemKey::new(alloc, repo, whole)?;
         let given = match step {
             Step::Put(is_file, limit) => put(alloc, &mut tree, &mut rows, key, is_file, limit)?,
             Step::Remove => remove(&mut tree, &mut rows, &key),
+            Step::RemoveWithin => remove_within(alloc, &mut tree, &mut rows, &key)?,
             Step::Rename(_, _) => Answer::Stays,
         };
         assert_eq!(rt; given, answer, "{repo}/{whole}");
@@ -116,12 +125,85 @@ fn each_list_is_that_of_renamed_rows(rt: HostRuntime) -> Result<(), Fail> {
         let given = match step {
             Step::Put(is_file, limit) => put(alloc, &mut tree, &mut rows, key, is_file, limit)?,
             Step::Remove => remove(&mut tree, &mut rows, &key),
+            Step::RemoveWithin => remove_within(alloc, &mut tree, &mut rows, &key)?,
             Step::Rename(to_repo, to) => rename(alloc, &mut tree, &mut rows, &key, to_repo, to)?,
         };
         assert_eq!(rt; given, answer, "{repo}/{whole}");
         compare(&rt, alloc, &tree, rows.as_slice())?;
     }
     Ok(())
+}
+
+// A folder with an item so many segments deep moves to a place so many segments deep, as long as the item has at most 64.
+#[test]
+fn moves_by_depth(rt: HostRuntime) -> Result<(), Fail> {
+    let alloc = rt.alloc();
+    for (deep, to, may) in [
+        (40, 25, true),
+        (40, 26, false),
+        (64, 1, true),
+        (64, 2, false),
+        (2, 63, true),
+        (2, 64, false),
+    ] {
+        let mut tree = Tree::new(alloc)?;
+        let item = chain(alloc, "a", deep)?;
+        tree.put(alloc, item, true, 1_000).ok();
+        if to > 1 {
+            let folder = chain(alloc, "b", to - 1)?;
+            tree.put(alloc, folder, false, 1_000).ok();
+        }
+        let from = tree.get(&ItemKey::new(alloc, "r", "a")?).unwrap_or(1_000);
+        let key = chain(alloc, "b", to)?;
+        assert_eq!(rt; tree.may_rename(from, &key), may, "{deep} to {to}");
+    }
+    Ok(())
+}
+
+// A key of so many segments, each but the first of one letter.
+fn chain(alloc: Global, first: &str, deep: usize) -> Result<ItemKey, Fail> {
+    let mut whole = String::from_str(alloc, first)?;
+    for _segment in 1..deep {
+        whole.push_str("/s")?;
+    }
+    Ok(ItemKey::new(alloc, "r", whole.as_str())?)
+}
+
+// A folder `a` with an item of 769 bytes moves to a key of so many bytes, as long as the item has at most 1,024.
+#[test]
+fn moves_by_length(rt: HostRuntime) -> Result<(), Fail> {
+    let alloc = rt.alloc();
+    let name = letters(alloc, 255)?;
+    let mut whole = String::from_str(alloc, "a")?;
+    for _name in 0..3 {
+        whole.push('/')?;
+        whole.push_str(name.as_str())?;
+    }
+    let mut tree = Tree::new(alloc)?;
+    tree.put(alloc, ItemKey::new(alloc, "r", whole.as_str())?, true, 9)
+        .ok();
+    tree.put(alloc, ItemKey::new(alloc, "r", "c")?, false, 9)
+        .ok();
+    let from = tree.get(&ItemKey::new(alloc, "r", "a")?).unwrap_or(1_000);
+    for (front, long, may) in [("", 255, true), ("c/", 254, true), ("c/", 255, false)] {
+        let mut to = String::from_str(alloc, front)?;
+        to.push_str(letters(alloc, long)?.as_str())?;
+        let key = ItemKey::new(alloc, "r", to.as_str())?;
+        assert_eq!(rt;
+            tree.may_rename(from, &key),
+            may,
+            "{front} and {long} letters"
+        );
+    }
+    Ok(())
+}
+
+fn letters(alloc: Global, count: usize) -> Result<String, AllocError> {
+    let mut text = String::new(alloc);
+    for _letter in 0..count {
+        text.push('n')?;
+    }
+    Ok(text)
 }
 
 // The row of a key gets another, and those beneath it, in the plain rows too.
@@ -212,8 +294,35 @@ fn remove(tree: &mut Tree, rows: &mut Vec<Plain>, key: &ItemKey) -> Answer {
     Answer::Removed
 }
 
+// The row of a key is removed with those beneath it, from the plain rows too.
+fn remove_within(
+    alloc: Global,
+    tree: &mut Tree,
+    rows: &mut Vec<Plain>,
+    key: &ItemKey,
+) -> Result<Answer, AllocError> {
+    let id = tree.get(key).unwrap_or(1_000);
+    if !tree.remove_within(id) {
+        return Ok(Answer::Stays);
+    }
+    let mut gone = Vec::new(alloc);
+    for row in rows.iter() {
+        let folders = row.key.folders(alloc)?;
+        if row.key == *key || folders.iter().any(|folder| *folder == *key) {
+            gone.push(row.id)?;
+        }
+    }
+    let count = gone.len();
+    for id in gone {
+        rows.retain(|row| row.id != id);
+    }
+    Ok(Answer::Gone(count))
+}
+
 fn compare(rt: &impl Abort, alloc: Global, tree: &Tree, rows: &[Plain]) -> Result<(), AllocError> {
     let mut all = Vec::new(alloc);
+    let ordered = in_order(alloc, tree)?;
+    assert_eq!(rt; ordered.len(), rows.len());
     for row in rows {
         all.push(row.id)?;
         assert_eq!(rt; tree.get(&row.key), Some(row.id));
@@ -222,6 +331,7 @@ fn compare(rt: &impl Abort, alloc: Global, tree: &Tree, rows: &[Plain]) -> Resul
         assert_eq!(rt; tree.is_file(row.id), row.is_file);
         let before = rows.iter().filter(|other| other.key < row.key).count();
         assert_eq!(rt; tree.rank(row.id).map(|rank| rank as usize), Some(before));
+        assert_eq!(rt; ordered.get(before).copied(), Some(row.id));
         let inside = in_folder(alloc, rows, &row.key)?;
         assert!(rt; tree.children(&row.key) == inside.as_slice());
     }
@@ -234,6 +344,16 @@ fn compare(rt: &impl Abort, alloc: Global, tree: &Tree, rows: &[Plain]) -> Resul
     assert_eq!(rt; tree.rank(1_000), None);
     assert!(rt; tree.key(1_000).is_none());
     Ok(())
+}
+
+fn in_order(alloc: Global, tree: &Tree) -> Result<Vec<u32>, AllocError> {
+    let mut ids = Vec::new(alloc);
+    for block in tree.ordered() {
+        for id in block {
+            ids.push(*id)?;
+        }
+    }
+    Ok(ids)
 }
 
 fn in_folder(alloc: Global, rows: &[Plain], key: &ItemKey) -> Result<Vec<u32>, AllocError> {
