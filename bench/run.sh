@@ -34,7 +34,6 @@ BENCH_RUN=$(printf '%s\t%s\t%s\t%s\t%s' "$(date -u +%FT%TZ)" "$commit" "$(rt ver
 
 # The tree's bench takes numbers of files, and its lines have a form of their own.
 tree() {
-    # shellcheck disable=SC2086
     timeout --foreground -k 10 "$limit" "$bench/tree/run.sh" ${quick:+1000 10000} | while IFS= read -r text; do
         echo "tree     $text"
         printf '%s\ttree\t%s\n' "$BENCH_RUN" "$text" >> "$BENCH_RESULTS"
