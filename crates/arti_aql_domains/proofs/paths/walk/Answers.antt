@@ -13,7 +13,7 @@ returns-in_default-relation_of-clause-relations c =
 pub loop-name-preserved : goal.loop-name-preserved
 loop-name-preserved c = (
   rw c.in_ok-push.ensures.items (walks_on c.args.root c.loop-name.domain c.in-Some-relation_of.rel c.args.text.now c.loop-name.rest.now c.in-Some.name.now c.in-Some.more.now
-  c.loop-name.path.items c.loop-name.invariant.0 c.in-Some.ensures.parts (sym c.relation_of.ensures ∙ c.in-Some-relation_of.is)),
+      c.loop-name.path.items c.loop-name.invariant.0 c.in-Some.ensures.parts (sym c.relation_of.ensures ∙ c.in-Some-relation_of.is)),
   search rules,
 )
 
