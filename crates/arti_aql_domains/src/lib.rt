@@ -12,4 +12,4 @@ pub use arti_query_model::{
 };
 pub use paths::{Target, What, find_target, shown_of};
 pub use table::{field_of, has_properties, is_shown_at_first, relation_name, relation_of, takes};
-pub use values::{kind_of, number_in, value_test};
+pub use values::{kind_of, number_in, typed_test, value_test};

@@ -1,5 +1,5 @@
 //! What is written in a query, as the value of a field.
-ghost use Rattle.std.specs.Prelude.{◌≡◌, ◌≤◌, ◌<◌, ◌^◌, ℕ, length, slice_index, true, pos, IfOk, option_map};
+ghost use Rattle.std.specs.Prelude.{◌≡◌, ◌≢◌, ◌≤◌, ◌<◌, ◌^◌, ℕ, length, slice_index, true, Ok, Err, IfOk, IfErr, option_map};
 ghost use Rattle.std.specs.Char.{is_ascii_digit};
 ghost use Rattle.std.specs.Str.{bytes_eq};
 ghost use Rattle.std.specs.List.{list_all};
@@ -7,11 +7,15 @@ ghost use Rattle.arti_aql_parse.specs.Words.{digits_value};
 ghost use Rattle.arti_aql_parse.specs.declared.query.Lit.TheVariants as lit;
 ghost use Rattle.arti_time.specs.Spans.{span_of};
 ghost use Rattle.arti_query_model.specs.declared.tests.TypedLit.TheVariants as typed;
+ghost use Rattle.arti_query_model.specs.declared.fault.TypeFault.TheVariants.{Memory};
+ghost use Rattle.arti_query_model.specs.Typing as typing;
 ghost use Rattle.arti_query_model.specs.Values as model;
 ghost use Rattle.arti_query_model.specs.Values.{test_of, moment_before};
 
-use arti_aql_parse::{Lit, Op};
-use arti_query_model::{FieldType, ItemKind, TypedLit, TypedTest};
+use crate::faults::{bad_value, wrong_operator};
+use crate::table::takes;
+use arti_aql_parse::{Lit, Op, Test};
+use arti_query_model::{FieldType, ItemKind, TypeFault, TypedLit, TypedTest};
 use arti_rows::{Moment, Text};
 use arti_time::{read_date, read_span};
 use std::alloc::{AllocError, Global};
@@ -229,5 +233,26 @@ pub fn value_test(
         Lit::Null => Ok(null_test(op)),
         Lit::Words(text) => words_test(now, values, op, text),
         Lit::Number(number) => literal_test(alloc, now, values, op, *number),
+    }
+}
+
+/// The test of the field at a path, which has these values. The operator is judged before the value.
+#[tactic(auto, unfolding(arti_query_model::specs::Typing::typed_test))]
+pub fn typed_test(
+    alloc: Global,
+    now: Moment,
+    path: &str,
+    values: FieldType,
+    test: &Test,
+) -> Result<TypedTest, TypeFault>
+    ensures typed { IfOk result (λ t. typing.typed_test now path.now values test.now ≡ Ok t) }
+    ensures refused { IfErr result (λ f. f ≢ Memory → typing.typed_test now path.now values test.now ≡ Err f) }
+{
+    if !takes(values, test.op) {
+        return Err(wrong_operator(alloc, path));
+    }
+    match value_test(alloc, now, values, test.op, &test.value)? {
+        Some(typed) => Ok(typed),
+        None => Err(bad_value(alloc, path)),
     }
 }
