@@ -3,8 +3,8 @@ use Rattle.std.proofs.Common.{◌≡◌, inl, inr, ℕ, ◌+◌, ◌^◌, ◌≤
 use Rattle.std.specs.Prelude.{All, Contains, map, nat_eq, ◌&&◌, ◌≢◌, IfSome, option_map}
 use Rattle.std.specs.List.{list_any}
 use Rattle.std.specs.Option.{option_copied}
-use Rattle.std.specs.Cmp.Lexicographic.{pointwise, nat_list_eq_equiv}
-use Rattle.std.proofs.lemmas.Bool.{eqb-true}
+use Rattle.std.specs.Cmp.Lexicographic.{pointwise, nat_list_eq_equiv, bytes_decides}
+use Rattle.std.proofs.lemmas.Bool.{and_parts, false_from_ne_true}
 use Rattle.std.proofs.lemmas.List.{map-append, get_or-map, length-map, drop-take, take-take, get_or_default}
 use Rattle.std.proofs.lemmas.List.Elements.{All-nil, All-cons, All-head, All-tail, All-weaker, All-map, All-contains, All-contains_itself}
 use Rattle.std.proofs.lemmas.List.Folds.{list_any_none, list_any_at}
@@ -30,33 +30,16 @@ use Rattle.arti_store.proofs.Meanings.{has_after, items_after_mapped, are_accept
 
 -- ---- the kept pairs
 
-both_true : (a b : Bool) → (a && b) ≡ true → (a ≡ true) × (b ≡ true)
-both_true true b e = (refl, e)
-both_true false b e = cc
-
-same_text : (xs ys : List ℕ) → pointwise nat_eq xs ys ≡ true → xs ≡ ys
-same_text [] [] e = refl
-same_text [] (y ∷ ys) e = cc
-same_text (x ∷ xs) [] e = cc
-same_text (x ∷ xs) (y ∷ ys) e =
-    let both = both_true (nat_eq x y) (pointwise nat_eq xs ys) e in
-    ap (λ z. z ∷ xs) (eqb-true x y both.0) ∙ ap (λ zs. y ∷ zs) (same_text xs ys both.1)
-
 same_pair : (a b : File) → same_file a b ≡ true → a ≡ b
 same_pair a b e =
-    let parts = both_true (pointwise nat_eq a.content b.content) (same_digests a.digests b.digests) e in
-    let digests = three (pointwise nat_eq a.digests.md5 b.digests.md5) (pointwise nat_eq a.digests.sha1 b.digests.sha1) (pointwise nat_eq a.digests.sha256 b.digests.sha256) parts.1 in
-    let c = same_text a.content b.content parts.0 in
-    let m = same_text a.digests.md5 b.digests.md5 digests.0 in
-    let s = same_text a.digests.sha1 b.digests.sha1 digests.1 in
-    let h = same_text a.digests.sha256 b.digests.sha256 digests.2 in
+    let parts = and_parts (pointwise nat_eq a.content b.content) (same_digests a.digests b.digests) e in
+    let last = and_parts (pointwise nat_eq a.digests.md5 b.digests.md5 && pointwise nat_eq a.digests.sha1 b.digests.sha1) (pointwise nat_eq a.digests.sha256 b.digests.sha256) parts.1 in
+    let first = and_parts (pointwise nat_eq a.digests.md5 b.digests.md5) (pointwise nat_eq a.digests.sha1 b.digests.sha1) last.0 in
+    let c : a.content ≡ b.content = (bytes_decides a.content b.content).0 parts.0 in
+    let m : a.digests.md5 ≡ b.digests.md5 = (bytes_decides a.digests.md5 b.digests.md5).0 first.0 in
+    let s : a.digests.sha1 ≡ b.digests.sha1 = (bytes_decides a.digests.sha1 b.digests.sha1).0 first.1 in
+    let h : a.digests.sha256 ≡ b.digests.sha256 = (bytes_decides a.digests.sha256 b.digests.sha256).0 last.1 in
     (λ i. record { content = c i; digests = record { md5 = m i; sha1 = s i; sha256 = h i } })
-  where
-    three : (x y z : Bool) → (x && y && z) ≡ true → (x ≡ true) × (y ≡ true) × (z ≡ true)
-    three true true true e = (refl, refl, refl)
-    three true true false e = cc
-    three true false z e = cc
-    three false y z e = cc
 
 all_true : (x y z w : Bool) → x ≡ true → y ≡ true → z ≡ true → w ≡ true → (x && (y && z && w)) ≡ true
 all_true x y z w ex ey ez ew =
@@ -64,10 +47,6 @@ all_true x y z w ex ey ez ew =
 
 same_itself : (a : File) → same_file a a ≡ true
 same_itself a = all_true _ _ _ _ (nat_list_eq_equiv.refl a.content) (nat_list_eq_equiv.refl a.digests.md5) (nat_list_eq_equiv.refl a.digests.sha1) (nat_list_eq_equiv.refl a.digests.sha256)
-
-not_same : (b : Bool) → (b ≡ true → ⊥) → b ≡ false
-not_same true f = absurd (f refl)
-not_same false f = refl
 
 -- several are kept, one after the other
 abbrev pub keep_all : List File → List File → List File
@@ -87,7 +66,7 @@ module _ (g : FileRef → File) where
       let none : list_any (same_file (g file)) (map g kept) ≡ false =
       list_any_none (same_file (g file)) (map g kept)
       (All-map (λ f. same_file (g file) f ≡ false) g kept
-      (All-weaker (λ old. g old ≢ g file) (λ old. same_file (g file) (g old) ≡ false) (λ old ne. not_same (same_file (g file) (g old)) (λ e. ne (sym (same_pair (g file) (g old) e)))) kept others)) in
+      (All-weaker (λ old. g old ≢ g file) (λ old. same_file (g file) (g old) ≡ false) (λ old ne. false_from_ne_true (same_file (g file) (g old)) (λ e. ne (sym (same_pair (g file) (g old) e)))) kept others)) in
       ap (λ b. cond b (map g kept) (map g kept ++ g file ∷ [])) none ∙ sym (map-append g kept (file ∷ []))
 
   keep_all-append : (files others kept : List File) → keep_all (files ++ others) kept ≡ keep_all others (keep_all files kept)

@@ -3,6 +3,7 @@ use Rattle.std.proofs.Common.{◌≡◌, ℕ, ◌+◌, Bool, true, false, cond, 
 use Rattle.std.specs.Prelude.{ℤ, All, Contains, map, filter, not, ◌&&◌, ◌||◌, ◌==◌, nat_le, is_none, option_map}
 use Rattle.std.specs.List.{find, list_any}
 use Rattle.std.specs.Ordering.{is_lt}
+use Rattle.std.proofs.lemmas.Bool.{and_parts}
 use Rattle.std.proofs.lemmas.List.{map-append, get_or-map, length-map}
 use Rattle.std.proofs.lemmas.List.Elements.{All-nil, All-cons, All-head, All-tail, All-append, All-weaker, All-map, All-filter}
 use Rattle.arti_rows.specs.Key.{Key, key_cmp, folders_above}
@@ -54,10 +55,6 @@ module _ (moment : ℤ) (user : List ℕ) where
 
   news_of : (keys : List Key) (last : ItemRow) → items_of (map (folder_row moment user) keys ++ last ∷ []) ≡ map (new_folder moment user) keys ++ item_of_row last ∷ []
   news_of keys last = map-append item_of_row (map (folder_row moment user) keys) (last ∷ []) ∙ ap (λ (l : List (Item FileRef)). l ++ item_of_row last ∷ []) (folders_of keys)
-
-  -- a folder that is there already
-  pub folder_here : (items : List (Item FileRef)) (key : Key) → has_item items key ≡ true → items ≡ with_folder items moment user key
-  folder_here items key is = sym (ap (λ b. cond b items (put_items (map (new_folder moment user) (missing_folders items key ++ key ∷ [])) items)) is)
 
   pub folder_put : (items new : List (Item FileRef)) (key : Key) (news : List ItemRow) → has_item items key ≡ false
       → news ≡ map (folder_row moment user) (missing_folders items key) ++ folder_row moment user key ∷ [] → new ≡ put_items (items_of news) items → new ≡ with_folder items moment user key
@@ -271,10 +268,6 @@ module _ {F G : Type 0} (f : F → G) (file_of : FileRef → F) where
       ∙ ap (λ (l : List (Item G)). is_accepted limits file_of change items && are_accepted limits (λ ref. f (file_of ref)) changes l) (sym (edited_by_mapped f change.moment change.user file_of change.edits items))
       ∙ ap (λ b. is_accepted limits file_of change items && b) (are_accepted_mapped limits changes (edited_by file_of change.moment change.user change.edits items))
 
-both_true : (a b : Bool) → (a && b) ≡ true → (a ≡ true) × (b ≡ true)
-both_true true b e = (refl, e)
-both_true false b e = cc
-
 pub none_is : (o : Option Refusal) → is_none o ≡ true → o ≡ None
 none_is None e = refl
 none_is (Some r) e = cc
@@ -285,7 +278,7 @@ module _ (limits : Limits) (file_of : FileRef → File) where
   unfolding refusal apply
   accepted_if [] h done = tt
   accepted_if (change ∷ changes) h done =
-      let both = both_true (is_accepted limits file_of change h.repository.items) _ done in
+      let both = and_parts (is_accepted limits file_of change h.repository.items) _ done in
       (none_is (refusal limits file_of change h) both.0, accepted_if changes (apply file_of change h) both.1)
 
   pub accepted_then : (changes : List Change) (h : Holding) → Accepted limits file_of changes h → are_accepted limits file_of changes h.repository.items ≡ true
