@@ -84,17 +84,17 @@ pub(crate) fn take_up(
     blobs: &mut Blobs,
     rows: &mut Rows,
     limit: u64,
-    change: Change,
+    change: &Change,
     added: Option<Staged>,
 ) -> Result<(), AllocError>
     requires may { MayKeep blobs.old added }
     requires room { IfSome added (λ s. end_of blobs.old.kept + s.file.len ≤ limit) }
     requires files { All (HasFileIn blobs.old.kept) rows.old }
-    requires references { All (Contains (kept_and blobs.old.kept added)) (references_of change.edits) }
+    requires references { All (Contains (kept_and blobs.old.kept added)) (references_of change.now.edits) }
     ensures kept { OnOk result (blobs.new.kept ≡ kept_and blobs.old.kept added) }
     ensures either { (blobs.new.kept ≡ blobs.old.kept) ⊎ (blobs.new.kept ≡ kept_and blobs.old.kept added) }
     ensures staging { blobs.new.staging ≡ blobs.old.staging }
-    ensures rows { OnOk result (items_of rows.new ≡ edited_by itself change.moment change.user change.edits (items_of rows.old)) }
+    ensures rows { OnOk result (items_of rows.new ≡ edited_by itself change.now.moment change.now.user change.now.edits (items_of rows.old)) }
     ensures files { All (HasFileIn blobs.new.kept) rows.new }
     ensures short { end_of blobs.new.kept ≤ max (end_of blobs.old.kept) limit }
 {

@@ -14,9 +14,9 @@ use arti_rows::{Change, Edit, FileRef, Given, ItemKey, ItemRow, Moment, Property
 use std::alloc::{AllocError, Global};
 
 /// Does the edits of a change, one after the other. After an `Err` some of the first were done.
-pub(crate) fn do_all(alloc: Global, rows: &mut Rows, change: Change) -> Result<(), AllocError>
-    ensures done { OnOk result (items_of rows.new ≡ edited_by itself change.moment change.user change.edits (items_of rows.old)) }
-    ensures files { (kept : List FileRef) → All (HasFileIn kept) rows.old → All (Contains kept) (references_of change.edits) → All (HasFileIn kept) rows.new }
+pub(crate) fn do_all(alloc: Global, rows: &mut Rows, change: &Change) -> Result<(), AllocError>
+    ensures done { OnOk result (items_of rows.new ≡ edited_by itself change.now.moment change.now.user change.now.edits (items_of rows.old)) }
+    ensures files { (kept : List FileRef) → All (HasFileIn kept) rows.old → All (Contains kept) (references_of change.now.edits) → All (HasFileIn kept) rows.new }
 {
     do_each(
         alloc,

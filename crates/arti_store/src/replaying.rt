@@ -31,7 +31,7 @@ pub(crate) fn replay(
             Err(DecodeFault::NotAChange) => return Ok(None),
             Err(DecodeFault::Memory) => return Err(AllocError),
             Ok(change) => {
-                if !redo(alloc, limits, &mut rows, &mut files, change)? {
+                if !redo(alloc, limits, &mut rows, &mut files, &change)? {
                     return Ok(None);
                 }
             }
@@ -46,11 +46,11 @@ fn redo(
     limits: &Limits,
     rows: &mut Rows,
     files: &mut Vec<FileRef>,
-    change: Change,
+    change: &Change,
 ) -> Result<bool, AllocError>
-    ensures accepted { IfOk result (λ b. b ≡ is_accepted limits.now itself change (items_of rows.old)) }
-    ensures rows { IfOk result (λ b. IsTrue b → items_of rows.new ≡ edited_by itself change.moment change.user change.edits (items_of rows.old)) }
-    ensures files { IfOk result (λ b. IsTrue b → files.new.items ≡ files.old.items ++ references_of change.edits) }
+    ensures accepted { IfOk result (λ b. b ≡ is_accepted limits.now itself change.now (items_of rows.old)) }
+    ensures rows { IfOk result (λ b. IsTrue b → items_of rows.new ≡ edited_by itself change.now.moment change.now.user change.now.edits (items_of rows.old)) }
+    ensures files { IfOk result (λ b. IsTrue b → files.new.items ≡ files.old.items ++ references_of change.now.edits) }
 {
     redo_each(
         alloc,

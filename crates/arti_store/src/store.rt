@@ -182,7 +182,14 @@ impl Store {
             Ok(()) => {}
         }
         let limit = self.limits.blobs;
-        let taken = take_up(alloc, &mut self.blobs, &mut self.rows, limit, change, added);
+        let taken = take_up(
+            alloc,
+            &mut self.blobs,
+            &mut self.rows,
+            limit,
+            &change,
+            added,
+        );
         let number = self.commits.saturating_add(1);
         if taken.is_err() {
             self.closed = Some(number);
