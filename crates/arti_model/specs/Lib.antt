@@ -6,5 +6,7 @@ pub mod Query
 pub mod Apply
 pub mod Deploys
 pub mod Stock
+pub mod Mapped
+pub mod Laws
 pub mod Step
 pub mod Run

@@ -1,6 +1,6 @@
 // The replies to queries.
 ghost use Rattle.std.specs.Prelude.{◌≡◌, ◌++◌, IfOk, codes, decimal};
-ghost use Rattle.arti_model.specs.Query.{all_in, query_text, thin_key};
+ghost use Rattle.arti_model.specs.Query.{file_size, all_in, query_text, thin_key};
 ghost use Rattle.arti_model.specs.Bodies.{refused, json_reply};
 ghost use Rattle.arti_model.specs.Replies.{IsReplyStatus};
 ghost use Rattle.arti_model.specs.Step.{queried, query_reply, query};
@@ -60,7 +60,7 @@ fn with_body(alloc: Global, body: Vec<u8>) -> Result<Parts, AllocError>
 
 // Whether the row is a file of that repository.
 fn is_file_in(row: &ItemRow, repo: &str) -> bool
-    ensures { (bytes : List ℕ) → result ≡ (is_file (item_in bytes row.now) && holds (Equals Repo repo.now) (facts_of (item_in bytes row.now))) }
+    ensures { (bytes : List ℕ) → result ≡ (is_file (item_in bytes row.now) && holds (Equals Repo repo.now) (facts_of file_size (item_in bytes row.now))) }
 {
     row.file.is_some() && row.key.repo.as_str() == repo
 }
@@ -71,7 +71,7 @@ fn files_in<'a>(
     rows: &'a [ItemRow],
     repo: &str,
 ) -> Result<Vec<&'a ItemRow>, AllocError>
-    ensures { (bytes : List ℕ) → All (IsWhole bytes) rows.now → IfOk result (λ v. facts_of_rows v.items ≡ map facts_of (page (all_in repo.now) (record { items = items_in bytes rows.now }))) }
+    ensures { (bytes : List ℕ) → All (IsWhole bytes) rows.now → IfOk result (λ v. facts_of_rows v.items ≡ map (facts_of file_size) (page file_size (all_in repo.now) (record { items = items_in bytes rows.now }))) }
 {
     let mut out = Vec::new(alloc);
     for row in rows {
@@ -84,7 +84,7 @@ fn files_in<'a>(
 
 // The reply to the query for the files of a repository.
 fn found(alloc: Global, store: &Store, repo: &str) -> Result<Parts, AllocError>
-    ensures { (bytes : List ℕ) → All (IsWhole bytes) store.now.rows → IfOk result (λ r. whole r ≡ queried (query_text (all_in repo.now) (record { items = items_in bytes store.now.rows }))) }
+    ensures { (bytes : List ℕ) → All (IsWhole bytes) store.now.rows → IfOk result (λ r. whole r ≡ queried (query_text file_size (all_in repo.now) (record { items = items_in bytes store.now.rows }))) }
 {
     let rows = files_in(alloc, store.items(), repo)?;
     match thin_reply(alloc, &rows) {
