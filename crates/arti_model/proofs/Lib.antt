@@ -1,4 +1,3 @@
 mod Rows
 pub mod OneReading
 mod Runs
-mod Orders

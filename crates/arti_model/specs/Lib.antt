@@ -8,5 +8,6 @@ pub mod Deploys
 pub mod Stock
 pub mod Mapped
 pub mod Laws
+pub mod OrderLaws
 pub mod Step
 pub mod Run

@@ -16,10 +16,10 @@ use Rattle.arti_rows.specs.declared.edits.Edit.{Edit}
 use Rattle.arti_rows.specs.declared.edits.Edit.TheVariants as edits
 use Rattle.arti_rows.specs.declared.edits.Change.{Change}
 use Rattle.arti_rows.specs.declared.refusal.Refusal.{Refusal}
-use Rattle.arti_rows.specs.declared.refusal.Refusal.TheVariants.{Full, NoRepo, NotFound}
+use Rattle.arti_rows.specs.declared.refusal.Refusal.TheVariants.{Full}
 use Rattle.arti_rows.specs.declared.refusal.Which.TheVariants.{Items}
 use Rattle.arti_model.specs.Store.{Item, File, same_key, item_of_row, find_item, has_file, has_item, put_item, put_items, new_folder, missing_folders}
-use Rattle.arti_model.specs.Apply.{is_local, refused_if, refused_below, file_above, added_with, passes_limit, put_refusal, edit_refusal, deployed, with_folder, with_deployed, counted, with_download, edited, edited_by, refusal, Holding, apply, apply_all}
+use Rattle.arti_model.specs.Apply.{is_local, refused_if, refused_below, file_above, added_with, passes_limit, put_refusal, deployed, with_folder, with_deployed, counted, with_download, edited, edited_by, refusal, Holding, apply, apply_all}
 use Rattle.arti_model.specs.Mapped.{item_mapped, items_mapped}
 use Rattle.arti_model.specs.Laws.{find-map, filter-map, option_map-map, find_mapped, edited_by_mapped, edits_refusal_mapped}
 use Rattle.arti_store.specs.Items.{file_in, item_in, items_in, items_of, HasFile, HasFileIn, find_row, put_row, put_rows, folder_row, file_row, counted_row, rows_with_download}
@@ -102,23 +102,6 @@ other_edited moment user (edits.Kept file) items other = refl
 other_edited moment user (edits.Item row) items other = refl
 other_edited moment user (edits.Held row) items other = refl
 
-pub other_refused : (limits : Limits) (edit : Edit) (items : List (Item FileRef)) → IsOther edit → false ≡ is_none (edit_refusal limits edit items)
-other_refused limits (edits.Folder key) items other = absurd (other.0 key refl)
-other_refused limits (edits.File key given file props) items other = absurd (other.1 key given file props refl)
-other_refused limits (edits.Downloaded key) items other = absurd (other.2 key refl)
-other_refused limits (edits.Define def) items other = refl
-other_refused limits (edits.Remove key) items other = refl
-other_refused limits (edits.Move from to) items other = refl
-other_refused limits (edits.Copy from to) items other = refl
-other_refused limits (edits.SetProps key deep props) items other = refl
-other_refused limits (edits.DropProps key deep keys) items other = refl
-other_refused limits (edits.Build info) items other = refl
-other_refused limits (edits.Unbuild name number) items other = refl
-other_refused limits (edits.Promote name number row) items other = refl
-other_refused limits (edits.Kept file) items other = refl
-other_refused limits (edits.Item row) items other = refl
-other_refused limits (edits.Held row) items other = refl
-
 -- ---- which edits are refused
 
 none_if : (b : Bool) (r : Refusal) (next : Option Refusal) → is_none (refused_if b r next) ≡ (not b && is_none next)
@@ -162,14 +145,6 @@ module _ (limits : Limits) (rows : List ItemRow) where
       ∙ ap (λ b. not (list_any (has_file its) (folders_above key)) && b) (none_if taken here (refused_if passes (Full Items) None) ∙ ap (λ b. not taken && b) (none_if passes (Full Items) None)))
       ∙ ap (λ n. not (not (is_local key)) && (not (list_any (has_file its) (folders_above key)) && (not taken && (not (not (added_with its key == 0) && not (nat_le (n + added_with its key) limits.items)) && true)))) (length-map rows item_of_row)
       ∙ all_of (is_local key) (list_any (has_file its) (folders_above key)) taken (added_with its key == 0) (nat_le (length rows + added_with its key) limits.items)
-
-  pub download_judged : (key : Key) → is_none (edit_refusal limits (edits.Downloaded key) its) ≡ (is_local key && has_file its key)
-  download_judged key = by (is_local key) (has_file its key)
-    where
-      by : (a b : Bool) → is_none (refused_if (not a) (NoRepo key.repo) (refused_if (not b) (NotFound key) None)) ≡ (a && b)
-      by true true = refl
-      by true false = refl
-      by false b = refl
 
 -- ---- the contents of rows are kept
 

@@ -1,7 +1,7 @@
 -- Where rows stand among others in the default order, and what is put there.
 use Rattle.std.proofs.Common.{◌≡◌, ℕ, ◌+◌, ◌<◌, ◌≤◌, zero, suc, Bool, true, false, cond, List, [], ◌∷◌, ◌++◌, length, get_or, take, drop, refl, sym, ap, subst, ◌∙◌, arith, Ordering, Less, Equal, Greater, ⊎_elim, length-take, length-drop, set, drop-cons, add-one, Option, Some, None, Vec, Global, Bor}
 use Rattle.std.specs.Prelude.{All, filter, map, IfOk, IfErr, Result, Ok, Err, ◌&&◌, ◌||◌, is_some}
-use Rattle.std.specs.List.{AllPairs, HoldsAt, insert, find, list_any}
+use Rattle.std.specs.List.{HoldsAt, insert, find, list_any}
 use Rattle.std.specs.List.Sorted.{IsNonDecreasingBy, IsPartitionPoint, IsBinarySearchResult, IsSearchInRange}
 use Rattle.std.specs.Ordering.{is_lt, ordering_index}
 use Rattle.std.specs.Option.{option_copied}
@@ -9,13 +9,13 @@ use Rattle.std.specs.Vec.{vec_len, vec_capacity}
 use Rattle.std.proofs.lemmas.Cmp.{tied_back, alike_right}
 use Rattle.std.proofs.lemmas.Bool.{cases_eq}
 use Rattle.std.proofs.lemmas.List.{get_or-take, get_or-drop, take-append-drop, append-nil, set_split, map-append, get_or-map, length-map}
-use Rattle.std.proofs.lemmas.List.Elements.{All-head, All-tail, All-cons, All-append, All-weaker, filter-append, filter_passes}
-use Rattle.std.proofs.lemmas.List.Kept.{AllPairs-cons, AllPairs-filter}
+use Rattle.std.proofs.lemmas.List.Elements.{All-head, All-tail, filter-append}
 use Rattle.arti_rows.specs.Key.{Key, key_cmp}
 use Rattle.arti_rows.specs.KeyLaws.{key_cmp-total, key_cmp-Less, key_cmp-Greater, same_key-Equal, same_key-Less, same_key-Greater}
 use Rattle.arti_rows.specs.declared.rows.ItemRow.{ItemRow}
 use Rattle.arti_model.specs.Store.{same_key, item_of_row, is_file, has_item, has_file}
 use Rattle.arti_model.specs.Laws.{list_any-map}
+use Rattle.arti_model.specs.OrderLaws.{put_by_key}
 use Rattle.arti_store.specs.Items.{InOrder, find_row, put_row, put_rows, items_of}
 use Rattle.arti_store.specs.Places.{IsPlace, IsGap, Putting}
 
@@ -298,37 +298,6 @@ change_in_order f same rows order = λ i j d lt within.
     let at : (k : ℕ) → k < length rows → (get_or (map f rows) k d).key ≡ (get_or rows k d).key = λ k below. ap (λ (row : ItemRow). row.key) (get_or-map f rows k d d below) ∙ same (get_or rows k d) in
     ap (λ k. key_cmp k (get_or (map f rows) j d).key) (at i (omega arith)) ∙ ap (λ k. key_cmp (get_or rows i d).key k) (at j inside) ∙ order i j d lt inside
 
--- ---- the order after a put
-
-less_by : (o : Ordering) → is_lt o ≡ true → o ≡ Less
-less_by Less e = refl
-less_by Equal e = cc
-less_by Greater e = cc
-
-abbrev Before : ItemRow → ItemRow → Type 0
-Before a b = key_cmp a.key b.key ≡ Less
-
-heads : (x : ItemRow) (xs : List ItemRow) → AllPairs Before (x ∷ xs) → All (Before x) xs
-heads x xs p k d lt = p zero (suc k) d (omega arith) (omega arith)
-
-tails : (x : ItemRow) (xs : List ItemRow) → AllPairs Before (x ∷ xs) → AllPairs Before xs
-tails x xs p i j d lt within = p (suc i) (suc j) d (omega arith) (omega arith)
-
-pairs_append : (xs ys : List ItemRow) → All (λ x. All (Before x) ys) xs → AllPairs Before xs → AllPairs Before ys → AllPairs Before (xs ++ ys)
-pairs_append [] ys across p q = q
-pairs_append (x ∷ xs) ys across p q =
-    AllPairs-cons Before x (xs ++ ys) (All-append (Before x) xs ys (heads x xs p) (All-head (λ y. All (Before y) ys) x xs across))
-    (pairs_append xs ys (All-tail (λ y. All (Before y) ys) x xs across) (tails x xs p) q)
-
+-- rows keep their order where one is put
 pub put_in_order : (new : ItemRow) (rows : List ItemRow) → InOrder rows → InOrder (put_row new rows)
-put_in_order new rows order =
-    let less : ItemRow → Bool = λ row. is_lt (key_cmp row.key new.key) in
-    let more : ItemRow → Bool = λ row. is_lt (key_cmp new.key row.key) in
-    let before : All (λ x. Before x new) (filter less rows) = All-weaker (λ x. less x ≡ true) (λ x. Before x new) (λ x e. less_by (key_cmp x.key new.key) e) (filter less rows) (filter_passes less rows) in
-    let behind : All (λ y. Before new y) (filter more rows) = All-weaker (λ y. more y ≡ true) (λ y. Before new y) (λ y e. less_by (key_cmp new.key y.key) e) (filter more rows) (filter_passes more rows) in
-    pairs_append (filter less rows) (new ∷ filter more rows)
-    (All-weaker (λ x. Before x new) (λ x. All (Before x) (new ∷ filter more rows))
-    (λ x e. All-cons (Before x) new (filter more rows) e (All-weaker (λ y. Before new y) (Before x) (λ y f. key_cmp-total.trans x.key new.key y.key e f) (filter more rows) behind))
-    (filter less rows) before)
-    (AllPairs-filter Before less rows order)
-    (AllPairs-cons Before new (filter more rows) behind (AllPairs-filter Before more rows order))
+put_in_order new rows order = put_by_key (λ (row : ItemRow). row.key) new rows order

@@ -43,9 +43,6 @@ false_and : (a b : Bool) → a ≡ false → (a && b) ≡ false
 false_and true b e = cc
 false_and false b e = refl
 
-pub redone_none : (limits : Limits) → Replays limits [] [] []
-redone_none limits = record { changes = []; each = tt; accepted = refl; items_are = refl; files_are = refl }
-
 -- one more
 pub redone_more : (limits : Limits) (bodies : List (List ℕ)) (items : List (Item FileRef)) (files : List FileRef) (body : List ℕ) (change : Change) → Replays limits bodies items files → ChangeBytes body change → is_accepted limits itself change items ≡ true
     → Replays limits (bodies ++ body ∷ []) (edited_by itself change.moment change.user change.edits items) (files ++ references_of change.edits)
