@@ -8,3 +8,7 @@ pub mod Deploys
 pub mod Stock
 pub mod Step
 pub mod Run
+pub mod Refusals
+pub mod Decide
+pub mod Perform
+pub mod StepLaws
