@@ -1,5 +1,5 @@
 -- The table of refusals: the status and the message of each.
-use Rattle.std.specs.Prelude.{ℕ, List, [], ◌∷◌, ◌++◌, codes, decimal, Option, Some, None, flat_map}
+use Rattle.std.specs.Prelude.{ℕ, List, [], ◌∷◌, ◌++◌, codes, decimal, Some, flat_map}
 use Rattle.arti_rows.specs.declared.refusal.Refusal.{Refusal}
 use Rattle.arti_rows.specs.declared.refusal.Refusal.TheVariants as refusals
 use Rattle.arti_rows.specs.declared.refusal.What.{What}
@@ -43,15 +43,6 @@ what_text parts.Truth = codes "Truth"
 abbrev pub joined : List (List ℕ) → List ℕ
 joined [] = []
 joined (text ∷ texts) = text ++ flat_map (λ (t : List ℕ). codes ", " ++ t) texts
-
--- a value that may be there
-abbrev pub with_text : List ℕ → Option (List ℕ) → List ℕ
-with_text name None = name
-with_text name (Some text) = name ++ codes ": " ++ text
-
-abbrev pub with_number : List ℕ → Option ℕ → List ℕ
-with_number name None = name
-with_number name (Some n) = name ++ codes ": " ++ decimal n
 
 -- ---- the table
 
@@ -111,58 +102,102 @@ status_of (refusals.Full which) = 507
 status_of (refusals.NotYet at) = 501
 status_of refusals.Memory = 500
 
+-- what its message begins with
+abbrev pub name_of : Refusal → List ℕ
+name_of refusals.BadTarget = codes "BadTarget"
+name_of refusals.NoRoute = codes "NoRoute"
+name_of refusals.NoMethod = codes "NoMethod"
+name_of refusals.BadUser = codes "BadUser"
+name_of (refusals.BadHeader name) = codes "BadHeader"
+name_of refusals.ChecksumMissing = codes "ChecksumMissing"
+name_of (refusals.Missing name) = codes "Missing"
+name_of (refusals.BadQuery name) = codes "BadQuery"
+name_of refusals.BadName = codes "BadName"
+name_of (refusals.TooLong member) = codes "TooLong"
+name_of refusals.BadProps = codes "BadProps"
+name_of refusals.DocumentTooLarge = codes "DocumentTooLarge"
+name_of refusals.NotJson = codes "NotJson"
+name_of (refusals.WrongKind member) = codes "WrongKind"
+name_of (refusals.NotASpec member) = codes "NotASpec"
+name_of (refusals.NotSupported name) = codes "NotSupported"
+name_of (refusals.NoPlaceholder n) = codes "NoPlaceholder"
+name_of (refusals.NoDomain name) = codes "NoDomain"
+name_of (refusals.NoField path) = codes "NoField"
+name_of (refusals.WrongOperator path) = codes "WrongOperator"
+name_of (refusals.BadValue path) = codes "BadValue"
+name_of (refusals.PathTooLong path) = codes "PathTooLong"
+name_of refusals.TooManyCases = codes "TooManyCases"
+name_of (refusals.SortNotShown path) = codes "SortNotShown"
+name_of refusals.QueryTooLong = codes "QueryTooLong"
+name_of (refusals.BadByte at) = codes "BadByte"
+name_of (refusals.OpenText at) = codes "OpenText"
+name_of (refusals.BadEscape at) = codes "BadEscape"
+name_of (refusals.Expected at what) = codes "Expected"
+name_of refusals.TooDeep = codes "TooDeep"
+name_of (refusals.NoRepo repo) = codes "NoRepo"
+name_of (refusals.NotDeployable repo) = codes "NotDeployable"
+name_of (refusals.NotAdmitted key) = codes "NotAdmitted"
+name_of (refusals.FileAbove key) = codes "FileAbove"
+name_of (refusals.FolderHere key) = codes "FolderHere"
+name_of (refusals.FileHere key) = codes "FileHere"
+name_of refusals.NoContent = codes "NoContent"
+name_of (refusals.ChecksumMismatch name) = codes "ChecksumMismatch"
+name_of (refusals.NotFound key) = codes "NotFound"
+name_of (refusals.RemoteFailed repo) = codes "RemoteFailed"
+name_of refusals.ContentTooLarge = codes "ContentTooLarge"
+name_of (refusals.NotLocal repo) = codes "NotLocal"
+name_of refusals.TooManyItems = codes "TooManyItems"
+name_of (refusals.IntoItself key) = codes "IntoItself"
+name_of (refusals.TargetTaken key) = codes "TargetTaken"
+name_of (refusals.NoBuild name number) = codes "NoBuild"
+name_of (refusals.Taken repo) = codes "Taken"
+name_of refusals.ClassChange = codes "ClassChange"
+name_of (refusals.UnknownMember repo) = codes "UnknownMember"
+name_of (refusals.Cycle repos) = codes "Cycle"
+name_of refusals.ReplyTooLarge = codes "ReplyTooLarge"
+name_of (refusals.Full which) = codes "Full"
+name_of (refusals.NotYet at) = codes "NotYet"
+name_of refusals.Memory = codes "Memory"
+
+-- the values that its message carries, behind a colon
+abbrev pub carried : Refusal → List ℕ
+carried (refusals.BadHeader name) = codes ": " ++ name
+carried (refusals.Missing name) = codes ": " ++ name
+carried (refusals.BadQuery name) = codes ": " ++ name
+carried (refusals.TooLong (Some member)) = codes ": " ++ member
+carried (refusals.WrongKind member) = codes ": " ++ member
+carried (refusals.NotASpec member) = codes ": " ++ member
+carried (refusals.NotSupported name) = codes ": " ++ name
+carried (refusals.NoPlaceholder n) = codes ": " ++ decimal n
+carried (refusals.NoDomain name) = codes ": " ++ name
+carried (refusals.NoField path) = codes ": " ++ path
+carried (refusals.WrongOperator path) = codes ": " ++ path
+carried (refusals.BadValue path) = codes ": " ++ path
+carried (refusals.PathTooLong path) = codes ": " ++ path
+carried (refusals.SortNotShown path) = codes ": " ++ path
+carried (refusals.BadByte at) = codes ": " ++ decimal at
+carried (refusals.OpenText at) = codes ": " ++ decimal at
+carried (refusals.BadEscape at) = codes ": " ++ decimal at
+carried (refusals.Expected at what) = codes ": " ++ decimal at ++ codes ", " ++ what_text what
+carried (refusals.NoRepo repo) = codes ": " ++ repo
+carried (refusals.NotDeployable repo) = codes ": " ++ repo
+carried (refusals.NotAdmitted key) = codes ": " ++ item_text key
+carried (refusals.FileAbove key) = codes ": " ++ item_text key
+carried (refusals.FolderHere key) = codes ": " ++ item_text key
+carried (refusals.FileHere key) = codes ": " ++ item_text key
+carried (refusals.ChecksumMismatch name) = codes ": " ++ name
+carried (refusals.NotFound key) = codes ": " ++ item_text key
+carried (refusals.RemoteFailed repo) = codes ": " ++ repo
+carried (refusals.NotLocal repo) = codes ": " ++ repo
+carried (refusals.IntoItself key) = codes ": " ++ item_text key
+carried (refusals.TargetTaken key) = codes ": " ++ item_text key
+carried (refusals.NoBuild name number) = codes ": " ++ name ++ 47 ∷ number
+carried (refusals.Taken repo) = codes ": " ++ repo
+carried (refusals.UnknownMember repo) = codes ": " ++ repo
+carried (refusals.Cycle repos) = codes ": " ++ joined repos
+carried (refusals.Full which) = codes ": " ++ which_text which
+carried (refusals.NotYet (Some at)) = codes ": " ++ decimal at
+carried why = []
+
 abbrev pub message_of : Refusal → List ℕ
-message_of refusals.BadTarget = codes "BadTarget"
-message_of refusals.NoRoute = codes "NoRoute"
-message_of refusals.NoMethod = codes "NoMethod"
-message_of refusals.BadUser = codes "BadUser"
-message_of (refusals.BadHeader name) = codes "BadHeader: " ++ name
-message_of refusals.ChecksumMissing = codes "ChecksumMissing"
-message_of (refusals.Missing name) = codes "Missing: " ++ name
-message_of (refusals.BadQuery name) = codes "BadQuery: " ++ name
-message_of refusals.BadName = codes "BadName"
-message_of (refusals.TooLong member) = with_text (codes "TooLong") member
-message_of refusals.BadProps = codes "BadProps"
-message_of refusals.DocumentTooLarge = codes "DocumentTooLarge"
-message_of refusals.NotJson = codes "NotJson"
-message_of (refusals.WrongKind member) = codes "WrongKind: " ++ member
-message_of (refusals.NotASpec member) = codes "NotASpec: " ++ member
-message_of (refusals.NotSupported name) = codes "NotSupported: " ++ name
-message_of (refusals.NoPlaceholder n) = codes "NoPlaceholder: " ++ decimal n
-message_of (refusals.NoDomain name) = codes "NoDomain: " ++ name
-message_of (refusals.NoField path) = codes "NoField: " ++ path
-message_of (refusals.WrongOperator path) = codes "WrongOperator: " ++ path
-message_of (refusals.BadValue path) = codes "BadValue: " ++ path
-message_of (refusals.PathTooLong path) = codes "PathTooLong: " ++ path
-message_of refusals.TooManyCases = codes "TooManyCases"
-message_of (refusals.SortNotShown path) = codes "SortNotShown: " ++ path
-message_of refusals.QueryTooLong = codes "QueryTooLong"
-message_of (refusals.BadByte at) = codes "BadByte: " ++ decimal at
-message_of (refusals.OpenText at) = codes "OpenText: " ++ decimal at
-message_of (refusals.BadEscape at) = codes "BadEscape: " ++ decimal at
-message_of (refusals.Expected at what) = codes "Expected: " ++ decimal at ++ codes ", " ++ what_text what
-message_of refusals.TooDeep = codes "TooDeep"
-message_of (refusals.NoRepo repo) = codes "NoRepo: " ++ repo
-message_of (refusals.NotDeployable repo) = codes "NotDeployable: " ++ repo
-message_of (refusals.NotAdmitted key) = codes "NotAdmitted: " ++ item_text key
-message_of (refusals.FileAbove key) = codes "FileAbove: " ++ item_text key
-message_of (refusals.FolderHere key) = codes "FolderHere: " ++ item_text key
-message_of (refusals.FileHere key) = codes "FileHere: " ++ item_text key
-message_of refusals.NoContent = codes "NoContent"
-message_of (refusals.ChecksumMismatch name) = codes "ChecksumMismatch: " ++ name
-message_of (refusals.NotFound key) = codes "NotFound: " ++ item_text key
-message_of (refusals.RemoteFailed repo) = codes "RemoteFailed: " ++ repo
-message_of refusals.ContentTooLarge = codes "ContentTooLarge"
-message_of (refusals.NotLocal repo) = codes "NotLocal: " ++ repo
-message_of refusals.TooManyItems = codes "TooManyItems"
-message_of (refusals.IntoItself key) = codes "IntoItself: " ++ item_text key
-message_of (refusals.TargetTaken key) = codes "TargetTaken: " ++ item_text key
-message_of (refusals.NoBuild name number) = codes "NoBuild: " ++ name ++ 47 ∷ number
-message_of (refusals.Taken repo) = codes "Taken: " ++ repo
-message_of refusals.ClassChange = codes "ClassChange"
-message_of (refusals.UnknownMember repo) = codes "UnknownMember: " ++ repo
-message_of (refusals.Cycle repos) = codes "Cycle: " ++ joined repos
-message_of refusals.ReplyTooLarge = codes "ReplyTooLarge"
-message_of (refusals.Full which) = codes "Full: " ++ which_text which
-message_of (refusals.NotYet at) = with_number (codes "NotYet") at
-message_of refusals.Memory = codes "Memory"
+message_of why = name_of why ++ carried why
