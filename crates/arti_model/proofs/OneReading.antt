@@ -2,10 +2,9 @@
 use Rattle.std.proofs.Common.{◌≡◌, ℕ, ◌-◌, ◌<◌, ◌⊎◌, inl, inr, Bool, true, false, List, [], ◌∷◌, ◌++◌, length, take, drop, refl, sym, ap, ◌∙◌, subst, arith, length-append}
 use Rattle.std.specs.Prelude.{MatchBool}
 use Rattle.std.proofs.Math.Seq.{take-append_seam, drop-append_seam}
-use Rattle.httparse.specs.Grammar.{RequestHead}
 use Rattle.httparse.proofs.GrammarLemmas.{request_unique}
 use Rattle.arti_model.specs.declared.Why.{Why}
-use Rattle.arti_model.specs.Requests.{Request, Whole, Ending, End, Cut, Bad, TooMany, Start, AtEnd, AtCut, AtBad, Head, StartsWithHead, HasNoHead, start_with, HeadOrNone, is_line_byte, StartsAt, skip, Begins, EndsSo, RequestBytes}
+use Rattle.arti_model.specs.Requests.{Request, Whole, Ending, End, Cut, Bad, TooMany, Start, AtEnd, AtCut, AtBad, Head, start_with, HeadOrNone, is_line_byte, StartsAt, skip, Begins, EndsSo, RequestBytes}
 
 same_head : (content : ℕ) (bytes : List ℕ) (s t : Start) → HeadOrNone content bytes s → HeadOrNone content bytes t → s ≡ t
 same_head content bytes s t (inl x) (inl y) =

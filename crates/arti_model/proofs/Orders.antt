@@ -9,9 +9,6 @@ use Rattle.arti_rows.specs.Key.{key_cmp}
 use Rattle.arti_rows.specs.KeyLaws.{key_cmp-total}
 use Rattle.arti_model.specs.Store.{Item, InDefaultOrder, put_item}
 
-abbrev Before : Item → Item → Type 0
-Before a b = key_cmp a.key b.key ≡ Less
-
 less_by : (o : Ordering) → is_lt o ≡ true → o ≡ Less
 less_by Less e = refl
 less_by Equal e = cc
@@ -30,15 +27,19 @@ module _ {X : Type 0} (R : X → X → Type 0) where
       AllPairs-cons R x (xs ++ ys) (All-append (R x) xs ys (heads x xs p) (All-head (λ y. All (R y) ys) x xs across))
       (pairs_append xs ys (All-tail (λ y. All (R y) ys) x xs across) (tails x xs p) q)
 
-pub put_in_order : (new : Item) (items : List Item) → InDefaultOrder items → InDefaultOrder (put_item new items)
-put_in_order new items order =
-    let less : Item → Bool = λ item. is_lt (key_cmp item.key new.key) in
-    let more : Item → Bool = λ item. is_lt (key_cmp new.key item.key) in
-    let before : All (λ x. Before x new) (filter less items) = All-weaker (λ x. less x ≡ true) (λ x. Before x new) (λ x e. less_by (key_cmp x.key new.key) e) (filter less items) (filter_passes less items) in
-    let behind : All (λ y. Before new y) (filter more items) = All-weaker (λ y. more y ≡ true) (λ y. Before new y) (λ y e. less_by (key_cmp new.key y.key) e) (filter more items) (filter_passes more items) in
-    pairs_append Before (filter less items) (new ∷ filter more items)
-    (All-weaker (λ x. Before x new) (λ x. All (Before x) (new ∷ filter more items))
-    (λ x e. All-cons (Before x) new (filter more items) e (All-weaker (λ y. Before new y) (Before x) (λ y f. key_cmp-total.trans x.key new.key y.key e f) (filter more items) behind))
-    (filter less items) before)
-    (AllPairs-filter Before less items order)
-    (AllPairs-cons Before new (filter more items) behind (AllPairs-filter Before more items order))
+module _ {F : Type 0} where
+  abbrev Before : Item F → Item F → Type 0
+  Before a b = key_cmp a.key b.key ≡ Less
+
+  pub put_in_order : (new : Item F) (items : List (Item F)) → InDefaultOrder items → InDefaultOrder (put_item new items)
+  put_in_order new items order =
+      let less : Item F → Bool = λ item. is_lt (key_cmp item.key new.key) in
+      let more : Item F → Bool = λ item. is_lt (key_cmp new.key item.key) in
+      let before : All (λ x. Before x new) (filter less items) = All-weaker (λ x. less x ≡ true) (λ x. Before x new) (λ x e. less_by (key_cmp x.key new.key) e) (filter less items) (filter_passes less items) in
+      let behind : All (λ y. Before new y) (filter more items) = All-weaker (λ y. more y ≡ true) (λ y. Before new y) (λ y e. less_by (key_cmp new.key y.key) e) (filter more items) (filter_passes more items) in
+      pairs_append Before (filter less items) (new ∷ filter more items)
+      (All-weaker (λ x. Before x new) (λ x. All (Before x) (new ∷ filter more items))
+      (λ x e. All-cons (Before x) new (filter more items) e (All-weaker (λ y. Before new y) (Before x) (λ y f. key_cmp-total.trans x.key new.key y.key e f) (filter more items) behind))
+      (filter less items) before)
+      (AllPairs-filter Before less items order)
+      (AllPairs-cons Before new (filter more items) behind (AllPairs-filter Before more items order))

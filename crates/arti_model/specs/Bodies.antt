@@ -34,7 +34,7 @@ deployed_body key created created_by size digests =
     ++ codes ",\"checksums\":{" ++ text_members (digest_members digests) ++ codes "}}")
 
 -- the body that answers a deploy
-abbrev pub deploy_body : Item → File → List ℕ
+abbrev pub deploy_body : {F : Type 0} → Item F → File → List ℕ
 deploy_body item file = deployed_body item.key item.created item.created_by (length file.content) file.digests
 
 -- the body that answers a refused request

@@ -1,6 +1,6 @@
 -- What the fields of a deploy ask (after the REST API of JFrog Artifactory): the digests that its content has, and whether the content is to
 -- be found by them.
-use Rattle.std.specs.Prelude.{ℕ, ◌*◌, Bool, true, false, not, ◌&&◌, nat_eq, if◌then◌else◌, List, codes, Option, Some, None, is_some, is_none, option_map, option_and_then}
+use Rattle.std.specs.Prelude.{ℕ, Bool, true, false, not, ◌&&◌, nat_eq, if◌then◌else◌, List, codes, Option, Some, None, is_some, is_none, option_map, option_and_then}
 use Rattle.std.specs.Result.{result_ok}
 use Rattle.std.specs.List.{find}
 use Rattle.std.specs.Str.{str_eq_ignore_ascii_case}
@@ -10,7 +10,7 @@ use Rattle.arti_rows.specs.declared.rows.Digests.{Digests}
 use Rattle.arti_rows.specs.declared.rows.Given.{Given}
 use Rattle.arti_rows.specs.declared.rows.SomeDigests.{SomeDigests}
 use Rattle.arti_model.specs.Requests.{FieldText}
-use Rattle.arti_model.specs.Store.{Item, File}
+use Rattle.arti_model.specs.Store.{Item}
 
 -- the value of the first field of that name; names are compared without ASCII case
 abbrev pub first_value : List FieldText → List ℕ → Option (List ℕ)
@@ -73,11 +73,11 @@ mismatch wanted d =
     if not (agrees wanted.sha1 d.sha1) then Some (codes "sha1") else (
     if not (agrees wanted.sha256 d.sha256) then Some (codes "sha256") else None))
 
--- a file that has the digests
-abbrev pub is_wanted : SomeDigests → Option File → Bool
-is_wanted wanted None = false
-is_wanted wanted (Some file) = has_digests wanted file.digests
+-- a content that has the digests, where `digests` tells those of a content
+abbrev pub is_wanted : {F : Type 0} → (F → Digests) → SomeDigests → Option F → Bool
+is_wanted digests wanted None = false
+is_wanted digests wanted (Some file) = has_digests wanted (digests file)
 
--- the first file that has them, in the order of the items
-abbrev pub file_with : SomeDigests → List Item → Option File
-file_with wanted items = option_and_then (λ (item : Item). item.file) (find (λ (item : Item). is_wanted wanted item.file) items)
+-- the first content that has them, in the order of the items
+abbrev pub file_with : {F : Type 0} → (F → Digests) → SomeDigests → List (Item F) → Option F
+file_with digests wanted items = option_and_then (λ item. item.file) (find (λ item. is_wanted digests wanted item.file) items)

@@ -6,6 +6,8 @@ pub mod Query
 pub mod Apply
 pub mod Deploys
 pub mod Stock
+pub mod Mapped
+pub mod Laws
 pub mod Step
 pub mod Run
 pub mod Refusals

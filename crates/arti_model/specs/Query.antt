@@ -23,6 +23,10 @@ pub data Field : Type 0 where
   ModifiedBy : Field
   Updated : Field
 
+-- the length of a file's content
+abbrev pub file_size : File → ℕ
+file_size file = length file.content
+
 -- what an item has in them; a folder has no size
 pub record Facts : Type 0 where
   pub key : Key
@@ -33,10 +37,11 @@ pub record Facts : Type 0 where
   pub modified_by : List ℕ
   pub updated : ℤ
 
-abbrev pub facts_of : Item → Facts
-facts_of item = record {
+-- where `size` tells the length of a content
+abbrev pub facts_of : {F : Type 0} → (F → ℕ) → Item F → Facts
+facts_of size item = record {
   key = item.key;
-  size = option_map (λ (f : File). length f.content) item.file;
+  size = option_map size item.file;
   created = item.created;
   created_by = item.created_by;
   modified = item.modified;
@@ -105,12 +110,12 @@ asks_kind (Equals Kind text) = true
 asks_kind (Equals field text) = false
 
 -- the items among which is selected: the files, unless their kind is asked
-abbrev pub roots : Criterion → Repository → List Item
+abbrev pub roots : {F : Type 0} → Criterion → Repository F → List (Item F)
 roots criterion r = if asks_kind criterion then r.items else filter is_file r.items
 
 -- those for which the criterion holds, in the default order, which is that of a repository's items
-abbrev pub selected : Criterion → Repository → List Item
-selected criterion r = filter (λ item. holds criterion (facts_of item)) (roots criterion r)
+abbrev pub selected : {F : Type 0} → (F → ℕ) → Criterion → Repository F → List (Item F)
+selected size criterion r = filter (λ item. holds criterion (facts_of size item)) (roots criterion r)
 
 -- no more than so many
 abbrev pub at_most : {A : Type 0} → Option ℕ → List A → List A
@@ -118,8 +123,8 @@ at_most None xs = xs
 at_most (Some n) xs = take n xs
 
 -- those that are answered
-abbrev pub page : Query → Repository → List Item
-page q r = at_most q.limit (drop q.offset (selected q.criterion r))
+abbrev pub page : {F : Type 0} → (F → ℕ) → Query → Repository F → List (Item F)
+page size q r = at_most q.limit (drop q.offset (selected size q.criterion r))
 
 -- ---- the reply's text: JSON (RFC 8259) without spaces
 
@@ -166,8 +171,8 @@ reply_text offset limit rows =
     codes "{\"results\":[" ++ with_commas (map row_text rows) ++ codes "],\"range\":" ++ range_text offset limit (length rows) ++ codes "}"
 
 -- the reply to a query
-abbrev pub query_text : Query → Repository → List ℕ
-query_text q r = reply_text q.offset q.limit (map facts_of (page q r))
+abbrev pub query_text : {F : Type 0} → (F → ℕ) → Query → Repository F → List ℕ
+query_text size q r = reply_text q.offset q.limit (map (facts_of size) (page size q r))
 
 -- ---- the one form of query that is read: items.find({"repo":"KEY"})
 

@@ -1,5 +1,5 @@
 -- What one request does to a store, and its reply (of this project, after the REST API of JFrog Artifactory).
-use Rattle.std.specs.Prelude.{ℕ, ◌+◌, ℤ, Bool, not, ◌&&◌, ◌||◌, nat_eq, nat_le, nat_lt, if◌then◌else◌, List, [], ◌∷◌, ◌++◌, length, drop, codes, decimal, Option, Some, None, is_none, is_some, option_and_then}
+use Rattle.std.specs.Prelude.{ℕ, ℤ, Bool, not, ◌&&◌, ◌||◌, nat_eq, nat_le, nat_lt, if◌then◌else◌, List, [], ◌∷◌, ◌++◌, length, drop, codes, decimal, Option, Some, None, is_none, is_some, option_and_then}
 use Rattle.std.specs.List.{list_any, list_all, starts_with}
 use Rattle.std.specs.Cmp.Lexicographic.{pointwise}
 use Rattle.arti_rows.specs.Key.{Key, key_of}
@@ -13,7 +13,7 @@ use Rattle.arti_rows.specs.declared.edits.Change.{Change}
 use Rattle.std.specs.Str.{str_eq_ignore_ascii_case}
 use Rattle.arti_model.specs.Requests.{Request, Whole, FieldText}
 use Rattle.arti_model.specs.Store.{Repository, Item, File, find_item, local_key}
-use Rattle.arti_model.specs.Query.{all_in, query_text, thin_key, thin_end}
+use Rattle.arti_model.specs.Query.{file_size, all_in, query_text, thin_key, thin_end}
 use Rattle.arti_model.specs.Bodies.{refused, refused_head, json_reply, deploy_body, content_reply, item_text}
 use Rattle.arti_model.specs.Apply.{deployed, file_above, has_folder, added_with, passes_limit}
 use Rattle.arti_model.specs.Deploys.{bad_header, wanted_digests, is_checksum_deploy, lacks_digest, given_of, mismatch, file_with}
@@ -98,7 +98,7 @@ deploy_change s moment key wanted file = record {
 }
 
 -- the item that a deploy makes
-abbrev pub deployed_item : Stock → ℤ → Key → SomeDigests → File → Item
+abbrev pub deployed_item : Stock → ℤ → Key → SomeDigests → File → Item File
 deployed_item s moment key wanted file =
     deployed moment anonymous key (given_of wanted) file [] (find_item s.holding.repository.items key)
 
@@ -120,14 +120,14 @@ deploy_sent limits s moment key wanted body (Some word) = unchanged s (refused 4
 deploy_sent limits s moment key wanted body None = deploy_file limits s moment key wanted (file_of_body body)
 
 -- no file may stand above, and no folder at the key: the refusals aren't built yet
-abbrev pub is_barred : List Item → Key → Bool
+abbrev pub is_barred : {F : Type 0} → List (Item F) → Key → Bool
 is_barred items key = is_some (file_above items key) || has_folder items key
 
 -- a deploy whose fields are well formed
 abbrev pub deploy_with : Limits → Stock → ℤ → Key → SomeDigests → Bool → List ℕ → Answer
 deploy_with limits s moment key wanted checksum body =
     if is_barred s.holding.repository.items key then not_yet s else (
-    if checksum then deploy_found limits s moment key wanted (file_with wanted s.holding.repository.items)
+    if checksum then deploy_found limits s moment key wanted (file_with (λ (f : File). f.digests) wanted s.holding.repository.items)
     else deploy_sent limits s moment key wanted body (mismatch wanted (digests_of body)))
 
 -- a deploy, where that is the name of the first digest field that is malformed
@@ -147,8 +147,8 @@ abbrev pub not_found : Key → List ℕ
 not_found key = refused 404 (codes "NotFound: " ++ item_text key)
 
 -- the file of a key; a folder is none
-abbrev pub file_at : List Item → Key → Option File
-file_at items key = option_and_then (λ (item : Item). item.file) (find_item items key)
+abbrev pub file_at : {F : Type 0} → List (Item F) → Key → Option F
+file_at items key = option_and_then (λ item. item.file) (find_item items key)
 
 -- the change of a fetch
 abbrev pub fetch_change : ℤ → Key → Change
@@ -181,9 +181,9 @@ abbrev pub queried : List ℕ → List ℕ
 queried body = if nat_le (length body) reply_room then json_reply 200 body else refused 413 (codes "ReplyTooLarge")
 
 -- the reply to a query by the key in its body
-abbrev pub query_reply : Repository → List ℕ → Option (List ℕ) → List ℕ
+abbrev pub query_reply : Repository File → List ℕ → Option (List ℕ) → List ℕ
 query_reply r body None = refused 501 (codes "NotYet: " ++ decimal (thin_end body))
-query_reply r body (Some key) = queried (query_text (all_in key) r)
+query_reply r body (Some key) = queried (query_text file_size (all_in key) r)
 
 -- the answer to a query with that body
 abbrev pub query : Limits → Stock → List ℕ → Answer

@@ -2,8 +2,12 @@
 #![tactic(auto)]
 
 ghost use Rattle.std.specs.Prelude.{◌≡◌, ℕ, ℤ, List};
+ghost use Rattle.arti_rows.specs.declared.edits.Edit.{Edit};
 ghost use Rattle.arti_rows.specs.declared.limits.Limits.{Limits};
+ghost use Rattle.arti_rows.specs.declared.rows.FileRef.{FileRef};
 ghost use Rattle.arti_model.specs.Requests.{Start, Begins, Whole, Ending, RequestBytes};
+ghost use Rattle.arti_model.specs.Apply.{edited, edit_refusal};
+ghost use Rattle.arti_model.specs.Mapped.{items_mapped};
 ghost use Rattle.arti_model.specs.Stock.{Stock};
 ghost use Rattle.arti_model.specs.Store.{Item, InDefaultOrder, put_item};
 ghost use Rattle.arti_model.specs.Run.{AnswersAll, run_bytes};
@@ -41,6 +45,13 @@ pub fn steps_answer_all()
 {}
 
 /// Items that stand in the default order do so when one is put among them.
-pub fn items_keep_their_order()
-    ensures { (new : Item) (items : List Item) → InDefaultOrder items → InDefaultOrder (put_item new items) }
+pub fn items_keep_their_order<F>()
+    ensures { (new : Item F) (items : List (Item F)) → InDefaultOrder items → InDefaultOrder (put_item new items) }
+{}
+
+/// An edit does the same whatever the contents are seen as, and is refused alike.
+pub fn edits_look_at_no_content<F, G>()
+    ensures done { (f : F → G) (file_of : FileRef → F) (moment : ℤ) (user : List ℕ) (edit : Edit) (items : List (Item F))
+        → items_mapped f (edited file_of moment user edit items) ≡ edited (λ ref. f (file_of ref)) moment user edit (items_mapped f items) }
+    ensures judged { (f : F → G) (limits : Limits) (edit : Edit) (items : List (Item F)) → edit_refusal limits edit (items_mapped f items) ≡ edit_refusal limits edit items }
 {}
