@@ -15,7 +15,7 @@ use Rattle.arti_model.specs.Store.{Repository, Item, File, find_item}
 use Rattle.arti_model.specs.Apply.{deployed, added_with, passes_limit}
 use Rattle.arti_model.specs.Bodies.{json_kind, content_kind, deploy_body}
 use Rattle.arti_model.specs.Deploys.{bad_header, wanted_digests, is_checksum_deploy, lacks_digest, given_of, mismatch, file_with}
-use Rattle.arti_model.specs.Query.{all_in, query_text, thin_key, thin_end}
+use Rattle.arti_model.specs.Query.{file_size, all_in, query_text, thin_key, thin_end}
 use Rattle.arti_model.specs.Step.{has_method, is_plain, is_query, item_asked, anonymous, is_barred, file_at, fetch_change}
 
 -- ---- what is asked
@@ -82,27 +82,27 @@ deploy_making moment key wanted file =
     record { moment = moment; user = anonymous; edits = edits.File key (given_of wanted) file [] ∷ [] }
 
 -- the item that a deploy makes
-abbrev pub item_making : Repository → ℤ → Key → SomeDigests → File → Item
+abbrev pub item_making : Repository File → ℤ → Key → SomeDigests → File → Item File
 item_making r moment key wanted file = deployed moment anonymous key (given_of wanted) file [] (find_item r.items key)
 
 -- a deploy of that content; one that would pass the limit of items isn't built yet
-abbrev pub decide_file : (File → FileRef) → Limits → Repository → ℤ → Key → SomeDigests → File → Decision File
+abbrev pub decide_file : (File → FileRef) → Limits → Repository File → ℤ → Key → SomeDigests → File → Decision File
 decide_file reference limits r moment key wanted file =
     if passes_limit limits r.items (added_with r.items key) then Refused (refusals.NotYet None)
     else Makes (deploy_making moment key wanted (reference file)) (λ ref. file) (json 201 (deploy_body (item_making r moment key wanted file) file))
 
 -- a deploy of the content that was found, if one was
-abbrev pub decide_found : (File → FileRef) → Limits → Repository → ℤ → Key → SomeDigests → Option File → Decision File
+abbrev pub decide_found : (File → FileRef) → Limits → Repository File → ℤ → Key → SomeDigests → Option File → Decision File
 decide_found reference limits r moment key wanted None = Refused refusals.NoContent
 decide_found reference limits r moment key wanted (Some file) = decide_file reference limits r moment key wanted file
 
 -- a deploy of the content that was sent, unless a digest is another one
-abbrev pub decide_sent : (File → FileRef) → Limits → Repository → ℤ → Key → SomeDigests → File → Option (List ℕ) → Decision File
+abbrev pub decide_sent : (File → FileRef) → Limits → Repository File → ℤ → Key → SomeDigests → File → Option (List ℕ) → Decision File
 decide_sent reference limits r moment key wanted file (Some name) = Refused (refusals.ChecksumMismatch name)
 decide_sent reference limits r moment key wanted file None = decide_file reference limits r moment key wanted file
 
 -- where a file stands above, or a folder at the key, the refusal isn't built yet
-abbrev pub unless_barred : Repository → Key → Decision File → Decision File
+abbrev pub unless_barred : Repository File → Key → Decision File → Decision File
 unless_barred r key decision = if is_barred r.items key then Refused (refusals.NotYet None) else decision
 
 -- ---- fetches and queries
@@ -113,11 +113,11 @@ decide_content moment key None = Refused (refusals.NotFound key)
 decide_content moment key (Some file) = Makes (fetch_change moment key) (λ ref. file) (content_of file)
 
 -- a query by the key in its body
-abbrev pub decide_by_key : Repository → List ℕ → Option (List ℕ) → Decision File
+abbrev pub decide_by_key : Repository File → List ℕ → Option (List ℕ) → Decision File
 decide_by_key r body None = Refused (refusals.NotYet (Some (thin_end body)))
-decide_by_key r body (Some key) = Tells (json 200 (query_text (all_in key) r))
+decide_by_key r body (Some key) = Tells (json 200 (query_text file_size (all_in key) r))
 
-abbrev pub decide_query : Limits → Repository → List ℕ → Decision File
+abbrev pub decide_query : Limits → Repository File → List ℕ → Decision File
 decide_query limits r body =
     if nat_lt limits.document (length body) then Refused refusals.DocumentTooLarge else decide_by_key r body (thin_key body)
 
@@ -125,15 +125,15 @@ decide_query limits r body =
 
 -- What is decided over the repository, a case for each kind of request: `reference` tells where a content is kept, or is to be kept next, and
 -- `sent` is the content of the body.
-abbrev pub decide : (File → FileRef) → Limits → Repository → Ask → List ℕ → File → ℤ → Decision File
+abbrev pub decide : (File → FileRef) → Limits → Repository File → Ask → List ℕ → File → ℤ → Decision File
 decide reference limits r (Deploy key wanted) body sent moment =
     unless_barred r key (decide_sent reference limits r moment key wanted sent (mismatch wanted sent.digests))
 decide reference limits r (DeployFound key wanted) body sent moment =
-    unless_barred r key (decide_found reference limits r moment key wanted (file_with wanted r.items))
+    unless_barred r key (decide_found reference limits r moment key wanted (file_with (λ (f : File). f.digests) wanted r.items))
 decide reference limits r (Fetch key) body sent moment = decide_content moment key (file_at r.items key)
 decide reference limits r Query body sent moment = decide_query limits r body
 
 -- the same, unless the head alone tells a refusal
-abbrev pub decided : (File → FileRef) → Limits → Repository → Result Ask Refusal → List ℕ → File → ℤ → Decision File
+abbrev pub decided : (File → FileRef) → Limits → Repository File → Result Ask Refusal → List ℕ → File → ℤ → Decision File
 decided reference limits r (Err why) body sent moment = Refused why
 decided reference limits r (Ok ask) body sent moment = decide reference limits r ask body sent moment

@@ -17,7 +17,7 @@ use Rattle.arti_model.specs.Store.{Repository, File}
 use Rattle.arti_model.specs.Apply.{added_with, passes_limit}
 use Rattle.arti_model.specs.Bodies.{refused, json_reply, deploy_body}
 use Rattle.arti_model.specs.Deploys.{bad_header, wanted_digests, is_checksum_deploy, lacks_digest, mismatch, file_with}
-use Rattle.arti_model.specs.Query.{all_in, query_text, thin_key}
+use Rattle.arti_model.specs.Query.{file_size, all_in, query_text, thin_key}
 use Rattle.arti_model.specs.Stock.{Stock, Answer, unchanged, reference_to, accept}
 use Rattle.arti_model.specs.Step.{has_method, is_plain, is_query, item_asked, is_barred, file_at, file_of_body, reply_room, deploy_change, deployed_item, deploy_file, deploy_found, deploy_sent, deploy_with, deploy_by, deploy, fetch, fetch_found, query_reply, query, query_target, not_yet, not_built, head_not_yet, step_on, step, digests_of}
 use Rattle.arti_model.specs.Decide.{Ask, Deploy, DeployFound, Fetch, Query, deploy_asked, asked_of, Decision, Refused, Makes, json, deploy_making, item_making, decide_file, decide_found, decide_sent, unless_barred, decide_content, decide_by_key, decide_query, decided}
@@ -35,7 +35,7 @@ same_texts : (xs ys : List ℕ) → Decides (pointwise nat_eq xs ys) (xs ≡ ys)
 same_texts xs ys = slice_eq-Decides Decides-eqb xs ys (pointwise nat_eq xs ys) refl
 
 module _ (limits : Limits) (s : Stock) (moment : ℤ) where
-  abbrev r : Repository
+  abbrev r : Repository File
   r = s.holding.repository
 
   abbrev reference : File → FileRef
@@ -73,7 +73,7 @@ module _ (limits : Limits) (s : Stock) (moment : ℤ) where
         ≡ whole body (cond (is_checksum_deploy fields) (Ok (DeployFound key wants)) (Ok (Deploy key wants)))
     with_is =
         elim (is_checksum_deploy fields) as (λ b. deploy_with limits s moment key wants b body ≡ whole body (cond b (Ok (DeployFound key wants)) (Ok (Deploy key wants)))) [
-          | true ↦ barred_is key wants (deploy_found limits s moment key wants (file_with wants r.items)) (decide_found reference limits r moment key wants (file_with wants r.items)) (found_is key wants (file_with wants r.items))
+          | true ↦ barred_is key wants (deploy_found limits s moment key wants (file_with (λ (f : File). f.digests) wants r.items)) (decide_found reference limits r moment key wants (file_with (λ (f : File). f.digests) wants r.items)) (found_is key wants (file_with (λ (f : File). f.digests) wants r.items))
           | false ↦ barred_is key wants (deploy_sent limits s moment key wants body (mismatch wants (digests_of body))) (decide_sent reference limits r moment key wants (file_of_body body) (mismatch wants (digests_of body))) (sent_is key wants body (mismatch wants (digests_of body)))
         ]
 
@@ -91,7 +91,7 @@ module _ (limits : Limits) (s : Stock) (moment : ℤ) where
   key_is : (body : List ℕ) (key : Option (List ℕ)) → unchanged s (query_reply r body key) ≡ perform limits s false (decide_by_key r body key)
   key_is body None = refl
   key_is body (Some key) =
-      let text = query_text (all_in key) r in
+      let text = query_text file_size (all_in key) r in
       elim (nat_le (length text) reply_room) as (λ b. unchanged s (cond b (json_reply 200 text) (refused 413 (codes "ReplyTooLarge"))) ≡ unchanged s (told false (cond b (json 200 text) (refusal_reply refusals.ReplyTooLarge))))
       [ true ↦ refl | false ↦ refl ]
 
