@@ -1,21 +1,14 @@
 -- What a query may ask of an item's row.
-use Rattle.std.specs.Prelude.{List, map, option_map}
+use Rattle.std.specs.Prelude.{List, map}
 use Rattle.std.specs.Borrow.{Bor}
 use Rattle.arti_rows.specs.declared.rows.FileRef.{FileRef}
 use Rattle.arti_rows.specs.declared.rows.ItemRow.{ItemRow}
-use Rattle.arti_model.specs.Query.{Facts}
+use Rattle.arti_model.specs.Store.{item_of_row}
+use Rattle.arti_model.specs.Query.{Facts, facts_of}
 
 -- what the row tells of its item
 abbrev pub facts_of_row : ItemRow → Facts
-facts_of_row row = record {
-  key = row.key;
-  size = option_map (λ (f : FileRef). f.len) row.file;
-  created = row.created;
-  created_by = row.created_by;
-  modified = row.modified;
-  modified_by = row.modified_by;
-  updated = row.updated;
-}
+facts_of_row row = facts_of (λ (f : FileRef). f.len) (item_of_row row)
 
 -- the same of rows that are borrowed
 abbrev pub facts_of_rows : List (Bor ItemRow) → List Facts

@@ -1,5 +1,5 @@
 -- What answers do, put together from what their parts do.
-use Rattle.std.proofs.Common.{◌≡◌, inr, ℕ, ◌+◌, List, [], ◌++◌, length, take, refl, sym, ap, ◌∙◌, subst, append_assoc, arith}
+use Rattle.std.proofs.Common.{◌≡◌, ℕ, ◌+◌, List, [], ◌++◌, length, take, refl, sym, ap, ◌∙◌, subst, append_assoc, arith}
 use Rattle.std.specs.Prelude.{min, Result, Ok, Err, IfErr, OnOk, OnErr}
 use Rattle.std.proofs.lemmas.List.{append-nil, take-append-le, take_min}
 use Rattle.std.proofs.Math.Seq.{take-append-add}
@@ -9,7 +9,7 @@ use Rattle.arti_ground.specs.Moments.{passes_map, passes_then}
 use Rattle.arti_model.specs.Apply.{Holding}
 use Rattle.arti_model.specs.Stock.{Stock}
 use Rattle.arti_store.specs.ImageLaws.{store_leaves}
-use Rattle.arti_store.specs.Store.{View, holding_of, Stands, HoldsOpen, HoldsStore, Standing}
+use Rattle.arti_store.specs.Store.{View, holding_of, Stands, HoldsStore, Standing}
 use Rattle.arti_service.specs.declared.answering.Stop.{Stop}
 use Rattle.arti_service.specs.declared.answering.Stop.TheVariants as stop
 use Rattle.arti_service.specs.Asks.{Tells}

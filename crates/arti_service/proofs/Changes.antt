@@ -106,7 +106,7 @@ deploy_accepted limits file_of moment user key given file h local free room =
     ∙ ap (λ (b : Bool). by_four key true None b (passes_limit limits items (added_with items key))) no_folder
     ∙ ap (λ (b : Bool). by_four key true None false b) room
 
-found_file : (items : List Item) (key : Key) (file : File) → file_at items key ≡ Some file → has_file items key ≡ true
+found_file : (items : List (Item File)) (key : Key) (file : File) → file_at items key ≡ Some file → has_file items key ≡ true
 found_file [] key file e = absurd (cc e)
 found_file (x ∷ items) key file e = by (same_key x.key key) refl (found_file items key file)
   where
@@ -116,10 +116,10 @@ found_file (x ∷ items) key file e = by (same_key x.key key) refl (found_file i
 
     by : (b : Bool) → same_key x.key key ≡ b → (file_at items key ≡ Some file → has_file items key ≡ true) → has_file (x ∷ items) key ≡ true
     by true same rest =
-        let here : x.file ≡ Some file = ap (λ (b : Bool). option_and_then (λ (item : Item). item.file) (cond b (Some x) (find_item items key))) (sym same) ∙ e in
+        let here : x.file ≡ Some file = ap (λ (b : Bool). option_and_then (λ (item : Item File). item.file) (cond b (Some x) (find_item items key))) (sym same) ∙ e in
         ap (λ (b : Bool). (b && is_some x.file) || has_file items key) same ∙ ap (λ (b : Bool). b || has_file items key) (some_file x.file here)
     by false other rest =
-        let later : file_at items key ≡ Some file = ap (λ (b : Bool). option_and_then (λ (item : Item). item.file) (cond b (Some x) (find_item items key))) (sym other) ∙ e in
+        let later : file_at items key ≡ Some file = ap (λ (b : Bool). option_and_then (λ (item : Item File). item.file) (cond b (Some x) (find_item items key))) (sym other) ∙ e in
         ap (λ (b : Bool). (b && is_some x.file) || has_file items key) other ∙ rest later
 
 pub fetch_accepted : (limits : Limits) (file_of : FileRef → File) (moment : ℤ) (user : List ℕ) (key : Key) (h : Holding) (file : File) → key.repo ≡ local_key → file_at h.repository.items key ≡ Some file

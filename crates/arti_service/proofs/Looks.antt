@@ -12,7 +12,7 @@ use Rattle.std.proofs.lemmas.Bool.Decides.{nat_tests}
 use Rattle.std.proofs.lemmas.Cmp.{then_total, on_total, nat_list_cmp_total}
 use Rattle.arti_rows.specs.Key.{Key, key_cmp}
 use Rattle.arti_rows.specs.declared.rows.ItemRow.{ItemRow}
-use Rattle.arti_model.specs.Store.{Item, same_key, is_file, find_item, has_item, has_file}
+use Rattle.arti_model.specs.Store.{Item, File, same_key, is_file, find_item, has_item, has_file}
 use Rattle.arti_store.specs.Items.{InOrder, file_in, item_in, items_in, find_row}
 
 -- ---- lists
@@ -100,7 +100,7 @@ apart a b key less here =
 
 pub has_found : (bytes : List ℕ) (rows : List ItemRow) (key : Key) (found : Option (Bor ItemRow)) → option_map (item_in bytes) (option_copied found) ≡ find_item (items_in bytes rows) key → is_some found ≡ has_item (items_in bytes rows) key
 has_found bytes rows key found is =
-    some_copied (item_in bytes) found ∙ ap is_some is ∙ sym (any_is_find (λ (i : Item). same_key i.key key) (items_in bytes rows))
+    some_copied (item_in bytes) found ∙ ap is_some is ∙ sym (any_is_find (λ (i : Item File). same_key i.key key) (items_in bytes rows))
 
 -- a row that is found is a file
 abbrev pub is_file_row : Option ItemRow → Bool
@@ -108,7 +108,7 @@ is_file_row None = false
 is_file_row (Some row) = is_some row.file
 
 module _ (bytes : List ℕ) (key : Key) where
-  abbrev is_here : Item → Bool
+  abbrev is_here : Item File → Bool
   is_here i = same_key i.key key && is_file i
 
   later : (row : ItemRow) (rows : List ItemRow) → ((i : ℕ) (d : ItemRow) → i < length rows → key_cmp row.key (get_or rows i d).key ≡ Less) → same_key row.key key ≡ true → list_any is_here (items_in bytes rows) ≡ false

@@ -1,14 +1,15 @@
 -- How the end of a stream, and one more request, are answered.
-use Rattle.std.proofs.Common.{◌≡◌, inr, ℕ, ◌-◌, ◌<◌, ℤ, Bool, true, false, List, [], ◌∷◌, ◌++◌, length, drop, refl, sym, ap, ◌∙◌, subst, append_assoc}
+use Rattle.std.proofs.Common.{◌≡◌, inr, ◌⊎◌, ⊎_elim, ℕ, ◌-◌, ◌<◌, ℤ, Bool, true, false, List, [], ◌∷◌, ◌++◌, length, drop, refl, sym, ap, ◌∙◌, subst, append_assoc}
 use Rattle.std.specs.Prelude.{MatchBool}
 use Rattle.std.proofs.lemmas.List.{append-nil}
 use Rattle.std.proofs.lemmas.Bool.{false≢true}
 use Rattle.arti_rows.specs.declared.limits.Limits.{Limits}
-use Rattle.arti_service.specs.Endings.{IsCutOrFault}
-use Rattle.arti_model.specs.Requests.{Start, Request, Whole, Begins, AtEnd, Head, EndsSo, RequestBytes}
+use Rattle.arti_service.specs.Endings.{IsFault, IsCutOrFault}
+use Rattle.arti_model.specs.Requests.{Start, Request, Whole, Begins, AtEnd, AtBad, Head, EndsSo, RequestBytes}
 use Rattle.arti_model.specs.Requests as model
+use Rattle.arti_model.specs.declared.Why.{Why}
 use Rattle.arti_model.specs.Stock.{Stock}
-use Rattle.arti_model.specs.Run.{last_reply}
+use Rattle.arti_model.specs.Run.{last_reply, error_reply}
 use Rattle.arti_service.specs.declared.conversation.Ending.{Ending}
 use Rattle.arti_service.specs.declared.conversation.Ending.TheVariants as ending
 use Rattle.arti_service.specs.Talk.{IsAnswered, AtStreamEnd, Answers, TakesTurn, AnswersOne, CutsShort}
@@ -33,6 +34,25 @@ module _ (limits : Limits) (most : ℕ) (moments : List ℤ) (s : Stock) (input 
       let bytes = last_reply e in
       let silent : told' ≡ told ++ bytes = same_told ∙ sym (append-nil told) ∙ ap (λ (l : List ℕ). told ++ l) (sym quiet) in
       (bytes, subst (λ (x : Stock). IsAnswered limits most moments s input e bytes x) (sym same) (none e ends), silent)
+
+  pub ends_bad : (why : Why) (e : Ending) (told told' : List ℕ) (s' : Stock) → 0 < most → Begins limits.content input (AtBad why) → (e ≡ ending.Bad why) ⊎ IsFault e
+      → (e ≡ ending.Bad why → told' ≡ told ++ error_reply why) → s' ≡ s → AtStreamEnd e (Answers limits most moments s input told told' s')
+  ends_bad why e told told' s' some begins ends tells same =
+      ⊎_elim
+      (λ (is : e ≡ ending.Bad why). subst (λ (x : Ending). AtStreamEnd x (Answers limits most moments s input told told' s')) (sym is)
+      (error_reply why, subst (λ (x : Stock). IsAnswered limits most moments s input (model.Bad why) (error_reply why) x) (sym same) (none (model.Bad why) (some, begins)), tells is))
+      (λ fault. by_fault e (Answers limits most moments s input told told' s') fault)
+      ends
+    where
+      by_fault : (e : Ending) (P : model.Ending → Type 0) → IsFault e → AtStreamEnd e P
+      by_fault ending.End P h = absurd h
+      by_fault ending.Cut P h = absurd h
+      by_fault (ending.Bad w) P h = absurd h
+      by_fault ending.TooMany P h = absurd h
+      by_fault ending.Disk P h = tt
+      by_fault ending.Tell P h = tt
+      by_fault ending.Source P h = tt
+      by_fault ending.Memory P h = tt
 
   module _ (head : Request) (n : ℕ) (rest : List ℕ) (some : 0 < most) (begins : Begins limits.content input (Head head n rest)) where
     pub ends_in_body : (told told' : List ℕ) (s' : Stock) → CutsShort n rest s s' told told' → Answers limits most moments s input told told' s' model.Cut

@@ -1,7 +1,7 @@
 // What a store has at the keys that requests name.
 ghost use Rattle.std.specs.Prelude.{◌≡◌, ◌+◌, ◌&&◌, ℕ, List, length, IfSome, Contains, option_map, is_some};
 ghost use Rattle.arti_rows.specs.Key.{folders_above};
-ghost use Rattle.arti_model.specs.Store.{has_item, has_file};
+ghost use Rattle.arti_model.specs.Store.{File, has_item, has_file};
 ghost use Rattle.arti_model.specs.Apply.{added_with, passes_limit};
 ghost use Rattle.arti_model.specs.Deploys.{is_wanted, file_with};
 ghost use Rattle.arti_model.specs.Step.{is_barred, file_at};
@@ -83,7 +83,7 @@ pub fn passes_limit(store: &Store, limits: &Limits, key: &ItemKey, folders: &[It
 
 // Whether the row is a file that has the digests.
 fn is_wanted(row: &ItemRow, wanted: &SomeDigests) -> bool
-    ensures { (bytes : List ℕ) → result ≡ is_wanted wanted.now (item_in bytes row.now).file }
+    ensures { (bytes : List ℕ) → result ≡ is_wanted (λ (f : File). f.digests) wanted.now (item_in bytes row.now).file }
 {
     match &row.file {
         None => false,
@@ -95,7 +95,7 @@ ghost use Rattle.arti_store.specs.Items.{item_in};
 
 // The first of the rows that is a file that has the digests.
 fn row_with<'a>(rows: &'a [ItemRow], wanted: &SomeDigests) -> Option<&'a ItemRow>
-    ensures row { (bytes : List ℕ) → option_map (item_in bytes) (option_copied result) ≡ find (λ item. is_wanted wanted.now item.file) (items_in bytes rows.now) }
+    ensures row { (bytes : List ℕ) → option_map (item_in bytes) (option_copied result) ≡ find (λ item. is_wanted (λ (f : File). f.digests) wanted.now item.file) (items_in bytes rows.now) }
     ensures among { IfSome result (λ row. Contains rows.now row.now) }
 {
     for row in rows {
@@ -111,7 +111,7 @@ ghost use Rattle.std.specs.Option.{option_copied};
 
 /// The content of the first file that has the digests, in the default order.
 pub fn file_with(store: &Store, wanted: &SomeDigests) -> Option<FileRef>
-    ensures file { (bytes : List ℕ) → option_map (file_in bytes) result ≡ file_with wanted.now (items_in bytes store.now.rows) }
+    ensures file { (bytes : List ℕ) → option_map (file_in bytes) result ≡ file_with (λ (f : File). f.digests) wanted.now (items_in bytes store.now.rows) }
     ensures kept { IfSome result (Contains store.now.contents.kept) }
 {
     match row_with(store.items(), wanted) {

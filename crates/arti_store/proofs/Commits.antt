@@ -1,6 +1,6 @@
 -- What a change more makes, and what a crash leaves while it is committed.
 use Rattle.std.proofs.Common.{◌≡◌, inl, inr, ⊎_elim, ℕ, ◌+◌, ◌^◌, ◌<◌, ◌≤◌, Bool, true, false, cond, List, [], ◌∷◌, ◌++◌, length, get_or, Option, Some, None, refl, sym, ◌∙◌, ap, subst, arith, length-append}
-use Rattle.std.specs.Prelude.{All, Contains, map, IfSome, IsSomeAnd, ◌↔◌}
+use Rattle.std.specs.Prelude.{All, Contains, IfSome, IsSomeAnd, ◌↔◌}
 use Rattle.std.specs.List.{AllZip}
 use Rattle.std.specs.Int.{w32, to_be_bytes}
 use Rattle.std.proofs.lemmas.Bool.{cases_lt}
@@ -8,7 +8,6 @@ use Rattle.std.proofs.lemmas.List.{get_or_default}
 use Rattle.std.proofs.lemmas.List.Elements.{Contains-push_cases, Contains-append_left}
 use Rattle.arti_rows.specs.declared.limits.Limits.{Limits}
 use Rattle.arti_rows.specs.declared.rows.FileRef.{FileRef}
-use Rattle.arti_rows.specs.declared.rows.ItemRow.{ItemRow}
 use Rattle.arti_rows.specs.declared.edits.Change.{Change}
 use Rattle.arti_ground.specs.State.{Bytes, State, IsDurable, Passes}
 use Rattle.arti_ground.specs.Moments.{passes_map}
@@ -16,15 +15,15 @@ use Rattle.arti_journal.specs.Journal.{HoldsJournal, Appending, header, records,
 use Rattle.arti_blobs.specs.declared.staging.Staged.{Staged}
 use Rattle.arti_blobs.specs.Contents.{Contents, content, end_of, Keeps, kept_with, staged_length}
 use Rattle.arti_codec.specs.ChangeBytes.{ChangeBytes}
-use Rattle.arti_model.specs.Store.{File}
-use Rattle.arti_model.specs.Apply.{Holding, nothing_kept, apply, apply_all, refusal}
-use Rattle.arti_store.specs.Items.{file_in, items_in}
+use Rattle.arti_model.specs.Store.{File, Item}
+use Rattle.arti_model.specs.Apply.{Holding, nothing_kept, edited_by, apply, apply_all, refusal}
+use Rattle.arti_store.specs.Items.{file_in, items_of}
 use Rattle.arti_store.specs.Changes.{references_of, references}
-use Rattle.arti_store.specs.Edited.{rows_edited_by}
+use Rattle.arti_store.specs.Replays.{itself}
 use Rattle.arti_store.specs.Store.{View, holding_of, Accepted, AreDistinct, Makes, HoldsOpen, kept_and, MayKeep, IsFresh, IsStaged, AddsSome, PassesBlobs, Committing}
 use Rattle.arti_store.specs.ImageLaws.{end_push}
 use Rattle.arti_store.proofs.References.{keeps_then, keeps_none, keeps_one, references-push, fresh_not_kept, distinct_push}
-use Rattle.arti_store.proofs.Holdings.{change_seen}
+use Rattle.arti_store.proofs.Holdings.{seen, change_seen}
 
 -- ---- one change more
 
@@ -208,14 +207,14 @@ module _ (start end : State) (v : View) (change : Change) (body : List ℕ) (all
   pub moments_of : Passes start end (Appending start 1 holds.bodies body) → Passes start end (Committing start v.limits before after v.used longer)
   moments_of passes = passes_map start end (Appending start 1 holds.bodies body) (Committing start v.limits before after v.used longer) moment_of passes
 
-  module _ (next : View) (rows_are : next.rows ≡ rows_edited_by change.moment change.user change.edits v.rows) (kept_is : next.contents.kept ≡ all)
+  module _ (next : View) (items_are : items_of next.rows ≡ edited_by itself change.moment change.user change.edits (items_of v.rows)) (kept_is : next.contents.kept ≡ all)
       (staging : next.contents.staging ≡ None) (limits : next.limits ≡ v.limits) (used : next.used ≡ longer) (third : end.files 3 ≡ bytes) where
     pub holding_then : holding_of (end.files 3) next ≡ after
     holding_then =
         ap (λ (b : List ℕ). holding_of b next) third
-        ∙ ap (λ (l : List ItemRow). record { repository = record { items = items_in bytes l }; kept = map (file_in bytes) next.contents.kept }) rows_are
-        ∙ ap (λ (l : List FileRef). record { repository = record { items = items_in bytes (rows_edited_by change.moment change.user change.edits v.rows) }; kept = map (file_in bytes) l }) kept_is
-        ∙ sym (change_seen bytes change v.rows v.contents.kept all more.keeps more.distinct)
+        ∙ ap (λ (l : List (Item FileRef)). seen bytes l next.contents.kept) items_are
+        ∙ ap (λ (l : List FileRef). seen bytes (edited_by itself change.moment change.user change.edits (items_of v.rows)) l) kept_is
+        ∙ sym (change_seen bytes change (items_of v.rows) v.contents.kept all more.keeps more.distinct)
 
     made_then : Makes next.limits (holds.changes ++ change ∷ []) (end.files 3) next.contents.kept (holding_of (end.files 3) next)
     made_then =

@@ -1,15 +1,14 @@
 -- What changes make, over the bytes of the contents file.
 use Rattle.std.proofs.Common.{◌≡◌, inl, inr, ℕ, ◌+◌, ◌^◌, ◌≤◌, zero, suc, Bool, true, false, cond, List, [], ◌∷◌, ◌++◌, length, get_or, take, drop, length-take, Bor, Option, Some, None, refl, sym, ◌∙◌, ap, subst, arith}
-use Rattle.std.specs.Prelude.{ℤ, All, Contains, map, filter, nat_eq, ◌&&◌, ◌≢◌, IfSome, option_map}
+use Rattle.std.specs.Prelude.{All, Contains, map, nat_eq, ◌&&◌, ◌≢◌, IfSome, option_map}
 use Rattle.std.specs.List.{list_any}
 use Rattle.std.specs.Option.{option_copied}
-use Rattle.std.specs.Ordering.{is_lt}
-use Rattle.std.specs.Cmp.Lexicographic.{pointwise, nat_list_eq_equiv}
-use Rattle.std.proofs.lemmas.Bool.{eqb-true}
+use Rattle.std.specs.Cmp.Lexicographic.{pointwise, nat_list_eq_equiv, bytes_decides}
+use Rattle.std.proofs.lemmas.Bool.{and_parts, false_from_ne_true}
 use Rattle.std.proofs.lemmas.List.{map-append, get_or-map, length-map, drop-take, take-take, get_or_default}
-use Rattle.std.proofs.lemmas.List.Elements.{All-nil, All-cons, All-head, All-tail, All-append, All-weaker, All-map, All-filter, All-contains, All-contains_itself}
+use Rattle.std.proofs.lemmas.List.Elements.{All-nil, All-cons, All-head, All-tail, All-weaker, All-map, All-contains, All-contains_itself}
 use Rattle.std.proofs.lemmas.List.Folds.{list_any_none, list_any_at}
-use Rattle.arti_rows.specs.Key.{Key, key_cmp}
+use Rattle.arti_rows.specs.Key.{Key}
 use Rattle.arti_rows.specs.declared.limits.Limits.{Limits}
 use Rattle.arti_rows.specs.declared.rows.FileRef.{FileRef}
 use Rattle.arti_rows.specs.declared.rows.ItemRow.{ItemRow}
@@ -17,46 +16,30 @@ use Rattle.arti_rows.specs.declared.edits.Edit.{Edit}
 use Rattle.arti_rows.specs.declared.edits.Edit.TheVariants as edits
 use Rattle.arti_rows.specs.declared.edits.Change.{Change}
 use Rattle.arti_blobs.specs.Contents.{content, end_of, Keeps}
-use Rattle.arti_model.specs.Store.{File, same_key}
-use Rattle.arti_model.specs.Apply.{Holding, nothing_kept, same_digests, same_file, keep, keep_edited, keep_edited_by, apply, apply_all}
-use Rattle.arti_store.specs.Items.{file_in, item_in, items_in, HasFileIn, find_row, put_row, put_rows}
+use Rattle.arti_model.specs.Store.{Item, File, same_key}
+use Rattle.arti_model.specs.Mapped.{item_mapped, items_mapped}
+use Rattle.arti_model.specs.Laws.{edited_by_mapped}
+use Rattle.arti_model.specs.Apply.{Holding, nothing_kept, same_digests, same_file, keep, keep_edited, keep_edited_by, edited_by, apply, apply_all}
+use Rattle.arti_store.specs.Items.{file_in, HasFile, HasFileIn, find_row}
 use Rattle.arti_store.specs.Changes.{edit_references, references_of, references}
-use Rattle.arti_store.specs.Edited.{has_row, missing_above, folder_row, folders_for, file_row, counted_row, rows_edited, rows_edited_by, rows_after, accepts_changes}
+use Rattle.arti_store.specs.Replays.{itself, items_after, are_accepted}
 use Rattle.arti_store.specs.Store.{AreDistinct, Makes}
 use Rattle.arti_store.specs.ImageLaws.{keeps_within}
 use Rattle.arti_store.proofs.References.{keeps_front, keeps_each}
-use Rattle.arti_store.proofs.Views.{items_applied}
-use Rattle.arti_store.proofs.Verdicts.{accepted_seen, accepts_seen}
+use Rattle.arti_store.proofs.Meanings.{has_after, items_after_mapped, are_accepted_mapped, accepted_if, accepted_then, items_made}
 
 -- ---- the kept pairs
 
-both_true : (a b : Bool) → (a && b) ≡ true → (a ≡ true) × (b ≡ true)
-both_true true b e = (refl, e)
-both_true false b e = cc
-
-same_text : (xs ys : List ℕ) → pointwise nat_eq xs ys ≡ true → xs ≡ ys
-same_text [] [] e = refl
-same_text [] (y ∷ ys) e = cc
-same_text (x ∷ xs) [] e = cc
-same_text (x ∷ xs) (y ∷ ys) e =
-    let both = both_true (nat_eq x y) (pointwise nat_eq xs ys) e in
-    ap (λ z. z ∷ xs) (eqb-true x y both.0) ∙ ap (λ zs. y ∷ zs) (same_text xs ys both.1)
-
 same_pair : (a b : File) → same_file a b ≡ true → a ≡ b
 same_pair a b e =
-    let parts = both_true (pointwise nat_eq a.content b.content) (same_digests a.digests b.digests) e in
-    let digests = three (pointwise nat_eq a.digests.md5 b.digests.md5) (pointwise nat_eq a.digests.sha1 b.digests.sha1) (pointwise nat_eq a.digests.sha256 b.digests.sha256) parts.1 in
-    let c = same_text a.content b.content parts.0 in
-    let m = same_text a.digests.md5 b.digests.md5 digests.0 in
-    let s = same_text a.digests.sha1 b.digests.sha1 digests.1 in
-    let h = same_text a.digests.sha256 b.digests.sha256 digests.2 in
+    let parts = and_parts (pointwise nat_eq a.content b.content) (same_digests a.digests b.digests) e in
+    let last = and_parts (pointwise nat_eq a.digests.md5 b.digests.md5 && pointwise nat_eq a.digests.sha1 b.digests.sha1) (pointwise nat_eq a.digests.sha256 b.digests.sha256) parts.1 in
+    let first = and_parts (pointwise nat_eq a.digests.md5 b.digests.md5) (pointwise nat_eq a.digests.sha1 b.digests.sha1) last.0 in
+    let c : a.content ≡ b.content = (bytes_decides a.content b.content).0 parts.0 in
+    let m : a.digests.md5 ≡ b.digests.md5 = (bytes_decides a.digests.md5 b.digests.md5).0 first.0 in
+    let s : a.digests.sha1 ≡ b.digests.sha1 = (bytes_decides a.digests.sha1 b.digests.sha1).0 first.1 in
+    let h : a.digests.sha256 ≡ b.digests.sha256 = (bytes_decides a.digests.sha256 b.digests.sha256).0 last.1 in
     (λ i. record { content = c i; digests = record { md5 = m i; sha1 = s i; sha256 = h i } })
-  where
-    three : (x y z : Bool) → (x && y && z) ≡ true → (x ≡ true) × (y ≡ true) × (z ≡ true)
-    three true true true e = (refl, refl, refl)
-    three true true false e = cc
-    three true false z e = cc
-    three false y z e = cc
 
 all_true : (x y z w : Bool) → x ≡ true → y ≡ true → z ≡ true → w ≡ true → (x && (y && z && w)) ≡ true
 all_true x y z w ex ey ez ew =
@@ -64,10 +47,6 @@ all_true x y z w ex ey ez ew =
 
 same_itself : (a : File) → same_file a a ≡ true
 same_itself a = all_true _ _ _ _ (nat_list_eq_equiv.refl a.content) (nat_list_eq_equiv.refl a.digests.md5) (nat_list_eq_equiv.refl a.digests.sha1) (nat_list_eq_equiv.refl a.digests.sha256)
-
-not_same : (b : Bool) → (b ≡ true → ⊥) → b ≡ false
-not_same true f = absurd (f refl)
-not_same false f = refl
 
 -- several are kept, one after the other
 abbrev pub keep_all : List File → List File → List File
@@ -87,7 +66,7 @@ module _ (g : FileRef → File) where
       let none : list_any (same_file (g file)) (map g kept) ≡ false =
       list_any_none (same_file (g file)) (map g kept)
       (All-map (λ f. same_file (g file) f ≡ false) g kept
-      (All-weaker (λ old. g old ≢ g file) (λ old. same_file (g file) (g old) ≡ false) (λ old ne. not_same (same_file (g file) (g old)) (λ e. ne (sym (same_pair (g file) (g old) e)))) kept others)) in
+      (All-weaker (λ old. g old ≢ g file) (λ old. same_file (g file) (g old) ≡ false) (λ old ne. false_from_ne_true (same_file (g file) (g old)) (λ e. ne (sym (same_pair (g file) (g old) e)))) kept others)) in
       ap (λ b. cond b (map g kept) (map g kept ++ g file ∷ [])) none ∙ sym (map-append g kept (file ∷ []))
 
   keep_all-append : (files others kept : List File) → keep_all (files ++ others) kept ≡ keep_all others (keep_all files kept)
@@ -151,34 +130,29 @@ module _ (bytes : List ℕ) where
           last [] rest all = All-head (λ b. file_in bytes x ≢ file_in bytes b) file rest all
           last (y ∷ ys) rest all = last ys rest (All-tail (λ b. file_in bytes x ≢ file_in bytes b) y ((ys ++ file ∷ []) ++ rest) all)
 
-  items_made : (changes : List Change) (h : Holding) (rows : List ItemRow) → h.repository.items ≡ items_in bytes rows → (apply_all (file_in bytes) changes h).repository.items ≡ items_in bytes (rows_after changes rows)
-  items_made [] h rows is = is
-  items_made (change ∷ changes) h rows is =
-      items_made changes (apply (file_in bytes) change h) (rows_edited_by change.moment change.user change.edits rows) (items_applied bytes change h rows is)
+  -- a holding of these items and these kept contents
+  abbrev pub seen : List (Item FileRef) → List FileRef → Holding
+  seen items kept = record { repository = record { items = items_mapped (file_in bytes) items }; kept = map (file_in bytes) kept }
 
-  -- a holding of these rows and these kept contents
-  abbrev pub seen : List ItemRow → List FileRef → Holding
-  seen rows kept = record { repository = record { items = items_in bytes rows }; kept = map (file_in bytes) kept }
-
-  pub made_seen : (changes : List Change) (kept : List FileRef) → Keeps [] (references changes) kept → AreDistinct bytes kept → apply_all (file_in bytes) changes nothing_kept ≡ seen (rows_after changes []) kept
+  pub made_seen : (changes : List Change) (kept : List FileRef) → Keeps [] (references changes) kept → AreDistinct bytes kept → apply_all (file_in bytes) changes nothing_kept ≡ seen (items_after itself changes []) kept
   made_seen changes kept keeps distinct =
-      let items = items_made changes nothing_kept [] refl in
+      let items = items_made (file_in bytes) changes nothing_kept ∙ sym (items_after_mapped (file_in bytes) itself changes []) in
       let pairs = changes_kept (file_in bytes) changes nothing_kept ∙ kept_seen (references changes) [] kept keeps distinct in
       (λ i. record { repository = record { items = items i }; kept = pairs i })
 
-  -- one change more, of rows and kept contents
-  pub change_seen : (change : Change) (rows : List ItemRow) (kept all : List FileRef) → Keeps kept (references_of change.edits) all → AreDistinct bytes all
-      → apply (file_in bytes) change (seen rows kept) ≡ seen (rows_edited_by change.moment change.user change.edits rows) all
-  change_seen change rows kept all keeps distinct =
-      let items = items_applied bytes change (seen rows kept) rows refl in
-      let pairs = change_kept (file_in bytes) change (seen rows kept) ∙ kept_seen (references_of change.edits) kept all keeps distinct in
-      (λ i. record { repository = record { items = items i }; kept = pairs i })
+  -- one change more, of items and kept contents
+  pub change_seen : (change : Change) (items : List (Item FileRef)) (kept all : List FileRef) → Keeps kept (references_of change.edits) all → AreDistinct bytes all
+      → apply (file_in bytes) change (seen items kept) ≡ seen (edited_by itself change.moment change.user change.edits items) all
+  change_seen change items kept all keeps distinct =
+      let edited = items_made (file_in bytes) (change ∷ []) (seen items kept) ∙ sym (edited_by_mapped (file_in bytes) change.moment change.user itself change.edits items) in
+      let pairs = change_kept (file_in bytes) change (seen items kept) ∙ kept_seen (references_of change.edits) kept all keeps distinct in
+      (λ i. record { repository = record { items = edited i }; kept = pairs i })
 
--- changes that are accepted make what their rows and contents are
-pub makes_seen : (limits : Limits) (changes : List Change) (bytes : List ℕ) (kept : List FileRef) → accepts_changes limits changes [] ≡ true → Keeps [] (references changes) kept
-    → AreDistinct bytes kept → end_of kept ≤ length bytes → end_of kept ≤ 2 ^ 62 → Makes limits changes bytes kept (seen bytes (rows_after changes []) kept)
+-- changes that are accepted make what their items and contents are
+pub makes_seen : (limits : Limits) (changes : List Change) (bytes : List ℕ) (kept : List FileRef) → are_accepted limits itself changes [] ≡ true → Keeps [] (references changes) kept
+    → AreDistinct bytes kept → end_of kept ≤ length bytes → end_of kept ≤ 2 ^ 62 → Makes limits changes bytes kept (seen bytes (items_after itself changes []) kept)
 makes_seen limits changes bytes kept its keeps distinct within short = record {
-  accepted = accepted_seen limits bytes changes nothing_kept [] refl its;
+  accepted = accepted_if limits (file_in bytes) changes nothing_kept (are_accepted_mapped (file_in bytes) itself limits changes [] ∙ its);
   made = sym (made_seen bytes changes kept keeps distinct);
   refer = keeps;
   distinct = distinct;
@@ -186,81 +160,8 @@ makes_seen limits changes bytes kept its keeps distinct within short = record {
   short = short;
 }
 
-pub makes_accepts : (limits : Limits) (changes : List Change) (bytes : List ℕ) (kept : List FileRef) (h : Holding) → Makes limits changes bytes kept h → accepts_changes limits changes [] ≡ true
-makes_accepts limits changes bytes kept h makes = accepts_seen limits bytes changes nothing_kept [] refl makes.accepted
-
--- ---- the contents of rows are kept
-
-pub split : {X : Type 0} (P : X → Type 0) (xs ys : List X) → All P (xs ++ ys) → All P xs × All P ys
-split P [] ys all = (All-nil P, all)
-split P (x ∷ xs) ys all =
-    let rest = split P xs ys (All-tail P x (xs ++ ys) all) in
-    (All-cons P x xs (All-head P x (xs ++ ys) all) rest.0, rest.1)
-
-module _ (kept : List FileRef) where
-  abbrev Has : ItemRow → Type 0
-  Has row = HasFileIn kept row
-
-  has_put : (new : ItemRow) (rows : List ItemRow) → Has new → All Has rows → All Has (put_row new rows)
-  has_put new rows has all =
-      All-append Has (filter (λ (row : ItemRow). is_lt (key_cmp row.key new.key)) rows) (new ∷ filter (λ (row : ItemRow). is_lt (key_cmp new.key row.key)) rows)
-      (All-filter (λ (row : ItemRow). is_lt (key_cmp row.key new.key)) Has rows all)
-      (All-cons Has new (filter (λ (row : ItemRow). is_lt (key_cmp new.key row.key)) rows) has (All-filter (λ (row : ItemRow). is_lt (key_cmp new.key row.key)) Has rows all))
-
-  has_puts : (news rows : List ItemRow) → All Has news → All Has rows → All Has (put_rows news rows)
-  has_puts [] rows new all = all
-  has_puts (x ∷ news) rows new all = has_puts news (put_row x rows) (All-tail Has x news new) (has_put x rows (All-head Has x news new) all)
-
-  module _ (moment : ℤ) (user : List ℕ) where
-    has_folders : (keys : List Key) → All Has (map (folder_row moment user) keys)
-    has_folders keys = All-map Has (folder_row moment user) keys (λ k d lt. tt)
-
-    has_counts : (key : Key) (rows : List ItemRow) → All Has rows → All Has (map (λ (row : ItemRow). cond (same_key row.key key) (counted_row moment user row) row) rows)
-    has_counts key rows all = All-map Has (λ (row : ItemRow). cond (same_key row.key key) (counted_row moment user row) row) rows
-        (All-weaker Has (λ row. Has (cond (same_key row.key key) (counted_row moment user row) row)) (λ row has. by (same_key row.key key) row has) rows all)
-      where
-        by : (b : Bool) (row : ItemRow) → Has row → Has (cond b (counted_row moment user row) row)
-        by true row has = has
-        by false row has = has
-
-    has_folder : (b : Bool) (rows news : List ItemRow) → All Has rows → All Has (put_rows news rows) → All Has (cond b rows (put_rows news rows))
-    has_folder true rows news all new = all
-    has_folder false rows news all new = new
-
-    pub has_edit : (edit : Edit) (rows : List ItemRow) → All Has rows → All (Contains kept) (edit_references edit) → All Has (rows_edited moment user edit rows)
-    has_edit (edits.Folder key) rows all named =
-        let news = folders_for rows moment user key ++ folder_row moment user key ∷ [] in
-        has_folder (has_row rows key) rows news all
-        (has_puts news rows (All-append Has (folders_for rows moment user key) (folder_row moment user key ∷ []) (has_folders (missing_above rows key)) (All-cons Has (folder_row moment user key) [] tt (All-nil Has))) all)
-    has_edit (edits.File key given file props) rows all named =
-        let new = file_row moment user key given file props (find_row rows key) in
-        has_puts (folders_for rows moment user key ++ new ∷ []) rows
-        (All-append Has (folders_for rows moment user key) (new ∷ []) (has_folders (missing_above rows key)) (All-cons Has new [] (All-head (Contains kept) file [] named) (All-nil Has))) all
-    has_edit (edits.Downloaded key) rows all named = has_counts key rows all
-    has_edit (edits.Define def) rows all named = all
-    has_edit (edits.Remove key) rows all named = all
-    has_edit (edits.Move from to) rows all named = all
-    has_edit (edits.Copy from to) rows all named = all
-    has_edit (edits.SetProps key deep props) rows all named = all
-    has_edit (edits.DropProps key deep keys) rows all named = all
-    has_edit (edits.Build info) rows all named = all
-    has_edit (edits.Unbuild name number) rows all named = all
-    has_edit (edits.Promote name number row) rows all named = all
-    has_edit (edits.Kept file) rows all named = all
-    has_edit (edits.Item row) rows all named = all
-    has_edit (edits.Held row) rows all named = all
-
-    pub has_edits : (es : List Edit) (rows : List ItemRow) → All Has rows → All (Contains kept) (references_of es) → All Has (rows_edited_by moment user es rows)
-    has_edits [] rows all named = all
-    has_edits (edit ∷ es) rows all named =
-        let both = split (Contains kept) (edit_references edit) (references_of es) named in
-        has_edits es (rows_edited moment user edit rows) (has_edit edit rows all both.0) both.1
-
-  pub has_after : (changes : List Change) (rows : List ItemRow) → All Has rows → All (Contains kept) (references changes) → All Has (rows_after changes rows)
-  has_after [] rows all named = all
-  has_after (change ∷ changes) rows all named =
-      let both = split (Contains kept) (references_of change.edits) (references changes) named in
-      has_after changes (rows_edited_by change.moment change.user change.edits rows) (has_edits change.moment change.user change.edits rows all both.0) both.1
+pub makes_accepts : (limits : Limits) (changes : List Change) (bytes : List ℕ) (kept : List FileRef) (h : Holding) → Makes limits changes bytes kept h → are_accepted limits itself changes [] ≡ true
+makes_accepts limits changes bytes kept h makes = sym (are_accepted_mapped (file_in bytes) itself limits changes []) ∙ accepted_then limits (file_in bytes) changes nothing_kept makes.accepted
 
 -- rows keep their contents where more are kept
 pub has_more : (kept all : List FileRef) → ((file : FileRef) → Contains kept file → Contains all file) → (rows : List ItemRow) → All (HasFileIn kept) rows → All (HasFileIn all) rows
@@ -279,27 +180,27 @@ same_content end bytes others file le same =
     ∙ drop-take file.place file.len bytes
 
 module _ (bytes others : List ℕ) (kept : List FileRef) (same : (file : FileRef) → Contains kept file → file_in others file ≡ file_in bytes file) where
-  same_item : (row : ItemRow) → HasFileIn kept row → item_in others row ≡ item_in bytes row
-  same_item row has = ap (λ (f : Option File). record (item_in bytes row) { file = f }) (by row.file has)
+  same_item : (item : Item FileRef) → HasFile kept item → item_mapped (file_in others) item ≡ item_mapped (file_in bytes) item
+  same_item item has = ap (λ (f : Option File). record (item_mapped (file_in bytes) item) { file = f }) (by item.file has)
     where
       by : (file : Option FileRef) → IfSome file (Contains kept) → option_map (file_in others) file ≡ option_map (file_in bytes) file
       by None h = refl
       by (Some file) h = ap Some (same file h)
 
-  same_items : (rows : List ItemRow) → All (HasFileIn kept) rows → items_in others rows ≡ items_in bytes rows
+  same_items : (items : List (Item FileRef)) → All (HasFile kept) items → items_mapped (file_in others) items ≡ items_mapped (file_in bytes) items
   same_items [] all = refl
-  same_items (row ∷ rows) all =
-      ap (λ i. i ∷ items_in others rows) (same_item row (All-head (HasFileIn kept) row rows all)) ∙ ap (λ l. item_in bytes row ∷ l) (same_items rows (All-tail (HasFileIn kept) row rows all))
+  same_items (item ∷ items) all =
+      ap (λ i. i ∷ items_mapped (file_in others) items) (same_item item (All-head (HasFile kept) item items all)) ∙ ap (λ l. item_mapped (file_in bytes) item ∷ l) (same_items items (All-tail (HasFile kept) item items all))
 
   same_pairs : (files : List FileRef) → All (Contains kept) files → map (file_in others) files ≡ map (file_in bytes) files
   same_pairs [] all = refl
   same_pairs (file ∷ files) all =
       ap (λ f. f ∷ map (file_in others) files) (same file (All-head (Contains kept) file files all)) ∙ ap (λ l. file_in bytes file ∷ l) (same_pairs files (All-tail (Contains kept) file files all))
 
-  pub same_seen : (rows : List ItemRow) → All (HasFileIn kept) rows → All (Contains kept) kept → seen others rows kept ≡ seen bytes rows kept
-  same_seen rows all itself =
-      let items = same_items rows all in
-      let pairs = same_pairs kept itself in
+  pub same_seen : (its : List (Item FileRef)) → All (HasFile kept) its → All (Contains kept) kept → seen others its kept ≡ seen bytes its kept
+  same_seen its all each =
+      let items = same_items its all in
+      let pairs = same_pairs kept each in
       (λ i. record { repository = record { items = items i }; kept = pairs i })
 
   pub same_distinct : AreDistinct bytes kept → AreDistinct others kept
@@ -313,8 +214,8 @@ module _ (bytes others : List ℕ) (files kept : List FileRef) (refer : Keeps []
       let le = All-contains (λ (f : FileRef). f.place + f.len ≤ end_of kept) kept file (keeps_within files [] kept (All-nil (λ (f : FileRef). f.place + f.len ≤ 0)) refer) is in
       ap (λ c. record { content = c; digests = file.digests }) (same_content (end_of kept) bytes others file le front)
 
-  pub seen_stays : (rows : List ItemRow) → All (HasFileIn kept) rows → seen others rows kept ≡ seen bytes rows kept
-  seen_stays rows all = same_seen bytes others kept same_files rows all (All-contains_itself kept)
+  pub seen_stays : (items : List (Item FileRef)) → All (HasFile kept) items → seen others items kept ≡ seen bytes items kept
+  seen_stays items all = same_seen bytes others kept same_files items all (All-contains_itself kept)
 
   pub distinct_stays : AreDistinct bytes kept → AreDistinct others kept
   distinct_stays distinct = same_distinct bytes others kept same_files distinct
@@ -323,11 +224,11 @@ module _ (bytes others : List ℕ) (files kept : List FileRef) (refer : Keeps []
 pub makes_stays : (limits : Limits) (changes : List Change) (bytes others : List ℕ) (kept : List FileRef) (h : Holding) → take (end_of kept) others ≡ take (end_of kept) bytes → Makes limits changes bytes kept h → Makes limits changes others kept h
 makes_stays limits changes bytes others kept h front makes =
     let its = makes_accepts limits changes bytes kept h makes in
-    let rows = rows_after changes [] in
-    let has : All (HasFileIn kept) rows = has_after kept changes [] (All-nil (HasFileIn kept)) (keeps_each (references changes) [] kept makes.refer) in
-    let made : h ≡ seen bytes rows kept = makes.made ∙ made_seen bytes changes kept makes.refer makes.distinct in
+    let items = items_after itself changes [] in
+    let has : All (HasFile kept) items = has_after kept changes [] (All-nil (HasFile kept)) (keeps_each (references changes) [] kept makes.refer) in
+    let made : h ≡ seen bytes items kept = makes.made ∙ made_seen bytes changes kept makes.refer makes.distinct in
     let within : end_of kept ≤ length others = omega (arith, ap length front, length-take (end_of kept) others, length-take (end_of kept) bytes, makes.within) in
-    subst (λ (x : Holding). Makes limits changes others kept x) (seen_stays bytes others (references changes) kept makes.refer front rows has ∙ sym made)
+    subst (λ (x : Holding). Makes limits changes others kept x) (seen_stays bytes others (references changes) kept makes.refer front items has ∙ sym made)
     (makes_seen limits changes others kept its makes.refer (distinct_stays bytes others (references changes) kept makes.refer front makes.distinct) within makes.short)
 
 -- what is found has its content among the kept ones

@@ -1,17 +1,16 @@
 -- What is read of a store's files, and what a crash may leave of them, stands for it, and goes on to do so.
-use Rattle.std.proofs.Common.{◌≡◌, inr, ℕ, ◌+◌, ◌≤◌, List, length, take, Option, refl, sym, ap, subst, arith}
+use Rattle.std.proofs.Common.{◌≡◌, inr, ℕ, List, Option, sym, subst, arith}
 use Rattle.std.specs.Prelude.{All}
-use Rattle.std.proofs.lemmas.List.Elements.{All-weaker}
-use Rattle.arti_rows.specs.declared.rows.FileRef.{FileRef}
-use Rattle.arti_ground.specs.State.{Bytes, State, LeavesDisk, Passes, Follows}
+use Rattle.arti_ground.specs.State.{State, Passes, Follows}
 use Rattle.arti_ground.specs.Moments.{passes_map}
 use Rattle.arti_journal.specs.Journal.{StandsFor}
 use Rattle.arti_blobs.specs.declared.staging.Staging.{Staging}
-use Rattle.arti_blobs.specs.Contents.{content, end_of, HoldsContents, KeepsFront, Behind}
+use Rattle.arti_blobs.specs.Contents.{end_of, HoldsContents, KeepsFront, Behind}
 use Rattle.arti_model.specs.Apply.{Holding}
-use Rattle.arti_store.specs.Items.{HasFileIn}
+use Rattle.arti_store.specs.Items.{items_of, HasFileIn}
 use Rattle.arti_store.specs.Changes.{references}
-use Rattle.arti_store.specs.Store.{View, holding_of, Makes, Stands, HoldsOpen, HoldsStore, Standing}
+use Rattle.arti_store.specs.Store.{View, holding_of, Makes, HoldsOpen, Standing}
+use Rattle.arti_store.proofs.Meanings.{has_items}
 use Rattle.arti_store.proofs.Holdings.{makes_stays, seen_stays}
 
 -- ---- calls that leave what is kept
@@ -24,7 +23,7 @@ module _ (old new : State) (v : View) (staging : Option Staging) (has : All (Has
   end = end_of v.contents.kept
 
   pub holding_stays : KeepsFront end old.files new.files → holding_of (new.files 3) later ≡ holding_of (old.files 3) v
-  holding_stays front = seen_stays (old.files 3) (new.files 3) (references holds.changes) v.contents.kept holds.reads.refer front.here v.rows has
+  holding_stays front = seen_stays (old.files 3) (new.files 3) (references holds.changes) v.contents.kept holds.reads.refer front.here (items_of v.rows) (has_items v.contents.kept v.rows has)
 
   pub store_stays : KeepsFront end old.files new.files → Follows (KeepsFront end) old new → HoldsContents new later.contents → HoldsOpen new later
   store_stays front images contents =

@@ -1,7 +1,5 @@
-mod Keys
 mod Places
-mod Views
-mod Verdicts
+mod Meanings
 mod References
 mod Holdings
 pub mod Images

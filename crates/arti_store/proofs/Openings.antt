@@ -9,20 +9,21 @@ use Rattle.arti_rows.specs.declared.limits.Limits.{Limits}
 use Rattle.arti_rows.specs.declared.rows.FileRef.{FileRef}
 use Rattle.arti_rows.specs.declared.rows.ItemRow.{ItemRow}
 use Rattle.arti_rows.specs.declared.edits.Change.{Change}
-use Rattle.arti_ground.specs.State.{Bytes, State, IsDurable, Passes, OnlyReads, SinceSync, AfterSync}
+use Rattle.arti_ground.specs.State.{Bytes, State, IsDurable, Passes, OnlyReads, AfterSync}
 use Rattle.arti_ground.specs.Moments.{passes_map, reads_then, since_then, since_map, after_map}
 use Rattle.arti_journal.specs.Journal.{IsJournal, StandsFor, HoldsJournal, Opening, header, opened_record, records, opened}
 use Rattle.arti_blobs.specs.Contents.{end_of, Keeps, IsSame, AllDiffer, staged_length}
 use Rattle.arti_codec.specs.ChangeBytes.{ChangeBytes}
 use Rattle.arti_model.specs.Apply.{Holding}
-use Rattle.arti_store.specs.Items.{file_in, HasFileIn}
+use Rattle.arti_model.specs.Store.{Item}
+use Rattle.arti_store.specs.Items.{file_in, items_of, HasFile, HasFileIn}
 use Rattle.arti_store.specs.Changes.{references}
-use Rattle.arti_store.specs.Edited.{rows_after}
-use Rattle.arti_store.specs.Replays.{Replays, ReplaysNot}
+use Rattle.arti_store.specs.Replays.{itself, items_after, Replays, ReplaysNot}
 use Rattle.arti_store.specs.Store.{View, holding_of, AreDistinct, Makes, Stands, HoldsOpen, Reopening}
 use Rattle.arti_store.specs.ImageLaws.{content_length, each_within}
 use Rattle.arti_store.proofs.References.{keeps_each}
-use Rattle.arti_store.proofs.Holdings.{makes_seen, makes_accepts, seen, has_after}
+use Rattle.arti_store.proofs.Meanings.{has_after, has_rows}
+use Rattle.arti_store.proofs.Holdings.{makes_seen, makes_accepts, seen}
 use Rattle.arti_store.proofs.Redoing.{zip_once}
 
 -- ---- contents that differ
@@ -59,9 +60,9 @@ module _ (journals : (bodies others : List (List ℕ)) (bytes : List ℕ) → Is
   not_replayed not h used stands =
       false≢true (sym (not stands.changes (its_changes h used stands)) ∙ makes_accepts limits stands.changes (files 3) stands.kept h stands.makes)
 
-  pub not_contents : (rows : List ItemRow) (names : List FileRef) → ((bytes : List ℕ) (c d : Change) → ChangeBytes bytes c → ChangeBytes bytes d → c ≡ d) → Replays limits bodies rows names
+  pub not_contents : (items : List (Item FileRef)) (names : List FileRef) → ((bytes : List ℕ) (c d : Change) → ChangeBytes bytes c → ChangeBytes bytes d → c ≡ d) → Replays limits bodies items names
       → ((all : List FileRef) → Keeps [] names all → end_of all ≤ 2 ^ 62 → end_of all ≤ length (files 3) → AreDistinct (files 3) all → ⊥) → (h : Holding) (used : ℕ) → Stands limits files h used → ⊥
-  not_contents rows names one replays not h used stands =
+  not_contents items names one replays not h used stands =
       let same : names ≡ references stands.changes = replays.files_are ∙ ap references (zip_once one bodies replays.changes stands.changes replays.each (its_changes h used stands)) in
       not stands.kept (subst (λ (l : List FileRef). Keeps [] l stands.kept) (sym same) stands.makes.refer) stands.makes.short stands.makes.within stands.makes.distinct
 
@@ -111,15 +112,15 @@ then_read old mid new limits (inr before) durable now reads = inr (reads_then ol
 
 -- ---- the store that is opened
 
-module _ (limits : Limits) (bodies : List (List ℕ)) (rows : List ItemRow) (names kept : List FileRef) (bytes : List ℕ) (replays : Replays limits bodies rows names) (keeps : Keeps [] names kept)
-    (distinct : AreDistinct bytes kept) (within : end_of kept ≤ length bytes) (short : end_of kept ≤ 2 ^ 62) (v : View) (rows_are : v.rows ≡ rows) (kept_is : v.contents.kept ≡ kept) (limits_are : v.limits ≡ limits) where
+module _ (limits : Limits) (bodies : List (List ℕ)) (items : List (Item FileRef)) (names kept : List FileRef) (bytes : List ℕ) (replays : Replays limits bodies items names) (keeps : Keeps [] names kept)
+    (distinct : AreDistinct bytes kept) (within : end_of kept ≤ length bytes) (short : end_of kept ≤ 2 ^ 62) (v : View) (items_are : items_of v.rows ≡ items) (kept_is : v.contents.kept ≡ kept) (limits_are : v.limits ≡ limits) where
   made : Makes limits replays.changes bytes v.contents.kept (holding_of bytes v)
   made =
       let refer : Keeps [] (references replays.changes) kept = subst (λ (l : List FileRef). Keeps [] l kept) replays.files_are keeps in
       let all = makes_seen limits replays.changes bytes kept replays.accepted refer distinct within short in
-      let same : seen bytes (rows_after replays.changes []) kept ≡ holding_of bytes v =
-      ap (λ (l : List ItemRow). seen bytes l kept) (sym replays.rows_are ∙ sym rows_are) ∙ ap (λ (l : List FileRef). seen bytes v.rows l) (sym kept_is) in
-      subst (λ (h : Holding). Makes limits replays.changes bytes v.contents.kept h) same (subst (λ (l : List FileRef). Makes limits replays.changes bytes l (seen bytes (rows_after replays.changes []) kept)) (sym kept_is) all)
+      let same : seen bytes (items_after itself replays.changes []) kept ≡ holding_of bytes v =
+      ap (λ (l : List (Item FileRef)). seen bytes l kept) (sym replays.items_are ∙ sym items_are) ∙ ap (λ (l : List FileRef). seen bytes (items_of v.rows) l) (sym kept_is) in
+      subst (λ (h : Holding). Makes limits replays.changes bytes v.contents.kept h) same (subst (λ (l : List FileRef). Makes limits replays.changes bytes l (seen bytes (items_after itself replays.changes []) kept)) (sym kept_is) all)
 
   pub opened_stands : (files : Bytes) → files 3 ≡ bytes → IsJournal bodies (files 1) → v.used ≡ length (opened bodies) + 1 → Stands limits files (holding_of (files 3) v) v.used
   opened_stands files third journal used = record {
@@ -157,7 +158,7 @@ pub opened_durable : (mid new : State) → IsDurable mid → OnlyReads mid new �
 opened_durable mid new durable reads = λ c left. durable c (reads.disk.images c left) ∙ sym reads.disk.files
 
 -- the rows that are done again have their contents among the kept ones
-pub opened_has : (limits : Limits) (bodies : List (List ℕ)) (rows : List ItemRow) (names kept : List FileRef) → Replays limits bodies rows names → Keeps [] names kept → All (HasFileIn kept) rows
+pub opened_has : (limits : Limits) (bodies : List (List ℕ)) (rows : List ItemRow) (names kept : List FileRef) → Replays limits bodies (items_of rows) names → Keeps [] names kept → All (HasFileIn kept) rows
 opened_has limits bodies rows names kept replays keeps =
     let named : All (Contains kept) (references replays.changes) = subst (λ (l : List FileRef). All (Contains kept) l) replays.files_are (keeps_each names [] kept keeps) in
-    subst (λ (l : List ItemRow). All (HasFileIn kept) l) (sym replays.rows_are) (has_after kept replays.changes [] (All-nil (HasFileIn kept)) named)
+    has_rows kept rows (subst (λ (l : List (Item FileRef)). All (HasFile kept) l) (sym replays.items_are) (has_after kept replays.changes [] (All-nil (HasFile kept)) named))

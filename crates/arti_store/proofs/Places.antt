@@ -1,9 +1,10 @@
 -- Where rows stand among others in the default order, and what is put there.
-use Rattle.std.proofs.Common.{◌≡◌, ℕ, ◌+◌, ◌<◌, ◌≤◌, zero, suc, Bool, true, false, cond, List, [], ◌∷◌, ◌++◌, length, get_or, take, drop, refl, sym, ap, subst, ◌∙◌, arith, Ordering, Less, Equal, Greater, ⊎_elim, length-take, length-drop, set, drop-cons, add-one, Option, Some, None, Vec, Global}
+use Rattle.std.proofs.Common.{◌≡◌, ℕ, ◌+◌, ◌<◌, ◌≤◌, zero, suc, Bool, true, false, cond, List, [], ◌∷◌, ◌++◌, length, get_or, take, drop, refl, sym, ap, subst, ◌∙◌, arith, Ordering, Less, Equal, Greater, ⊎_elim, length-take, length-drop, set, drop-cons, add-one, Option, Some, None, Vec, Global, Bor}
 use Rattle.std.specs.Prelude.{All, filter, map, IfOk, IfErr, Result, Ok, Err, ◌&&◌, ◌||◌, is_some}
 use Rattle.std.specs.List.{AllPairs, HoldsAt, insert, find, list_any}
 use Rattle.std.specs.List.Sorted.{IsNonDecreasingBy, IsPartitionPoint, IsBinarySearchResult, IsSearchInRange}
 use Rattle.std.specs.Ordering.{is_lt, ordering_index}
+use Rattle.std.specs.Option.{option_copied}
 use Rattle.std.specs.Vec.{vec_len, vec_capacity}
 use Rattle.std.proofs.lemmas.Cmp.{tied_back, alike_right}
 use Rattle.std.proofs.lemmas.Bool.{cases_eq}
@@ -11,12 +12,16 @@ use Rattle.std.proofs.lemmas.List.{get_or-take, get_or-drop, take-append-drop, a
 use Rattle.std.proofs.lemmas.List.Elements.{All-head, All-tail, All-cons, All-append, All-weaker, filter-append, filter_passes}
 use Rattle.std.proofs.lemmas.List.Kept.{AllPairs-cons, AllPairs-filter}
 use Rattle.arti_rows.specs.Key.{Key, key_cmp}
+use Rattle.arti_rows.specs.KeyLaws.{key_cmp-total, key_cmp-Less, key_cmp-Greater, same_key-Equal, same_key-Less, same_key-Greater}
 use Rattle.arti_rows.specs.declared.rows.ItemRow.{ItemRow}
-use Rattle.arti_model.specs.Store.{same_key}
-use Rattle.arti_store.specs.Items.{InOrder, find_row, put_row, put_rows}
-use Rattle.arti_store.specs.Edited.{has_file_row}
+use Rattle.arti_model.specs.Store.{same_key, item_of_row, is_file, has_item, has_file}
+use Rattle.arti_model.specs.Laws.{list_any-map}
+use Rattle.arti_store.specs.Items.{InOrder, find_row, put_row, put_rows, items_of}
 use Rattle.arti_store.specs.Places.{IsPlace, IsGap, Putting}
-use Rattle.arti_store.proofs.Keys.{total, to_greater, to_less, same_at_equal, other_at_less, other_at_greater}
+
+-- a key behind another is another
+other_behind : (a b : Key) → key_cmp b a ≡ Less → same_key a b ≡ false
+other_behind a b h = same_key-Greater a b (key_cmp-Less b a h)
 
 -- ---- what is put between others
 
@@ -60,9 +65,9 @@ module _ (new : ItemRow) where
   put_between a m b before here behind =
       let la = keeps less a (λ k d lt. ap is_lt (before k d lt)) in
       let lm = drops less m (λ k d lt. ap is_lt (here k d lt)) in
-      let lb = drops less b (λ k d lt. ap is_lt (to_greater its _ (behind k d lt))) in
-      let ma = drops more a (λ k d lt. ap is_lt (to_greater _ its (before k d lt))) in
-      let mm = drops more m (λ k d lt. ap is_lt (tied_back total _ its (here k d lt))) in
+      let lb = drops less b (λ k d lt. ap is_lt (key_cmp-Less its _ (behind k d lt))) in
+      let ma = drops more a (λ k d lt. ap is_lt (key_cmp-Less _ its (before k d lt))) in
+      let mm = drops more m (λ k d lt. ap is_lt (tied_back key_cmp-total _ its (here k d lt))) in
       let mb = keeps more b (λ k d lt. ap is_lt (behind k d lt)) in
       let front : filter less (a ++ (m ++ b)) ≡ a = three less a m b ∙ parts _ _ _ a la lm lb in
       let back : filter more (a ++ (m ++ b)) ≡ b = three more a m b ∙ last _ _ _ b ma mm mb in
@@ -125,7 +130,7 @@ module _ (rows : List ItemRow) (order : InOrder rows) where
   rises key i j d le within =
       ⊎_elim (λ same. omega (arith, ap (λ k. ordering_index (key_cmp (get_or rows k d).key key)) same))
       (λ lt. let first = (get_or rows i d).key in let second = (get_or rows j d).key in let step = order i j d (omega arith) within in
-      index_by (key_cmp first key) (key_cmp second key) (λ e. total.trans first second key step e) (λ e. sym (alike_right total second key first e) ∙ step))
+      index_by (key_cmp first key) (key_cmp second key) (λ e. key_cmp-total.trans first second key step e) (λ e. sym (alike_right key_cmp-total second key first e) ∙ step))
       (cases_eq i j)
 
   module _ (key : Key) (r : Result ℕ ℕ) (range : IsSearchInRange r (length rows)) (result : IsBinarySearchResult (λ (row : ItemRow). key_cmp row.key key) rows r) where
@@ -138,12 +143,12 @@ module _ (rows : List ItemRow) (order : InOrder rows) where
           before = λ k d lt.
               let short : k < at = omega (arith, length-take at rows) in
               subst (λ (row : ItemRow). key_cmp row.key key ≡ Less) (sym (get_or-take at rows k d short))
-              (sym (alike_right total (get_or rows at d).key key (get_or rows k d).key (here d)) ∙ order k at d short within);
+              (sym (alike_right key_cmp-total (get_or rows at d).key key (get_or rows k d).key (here d)) ∙ order k at d short within);
           here = here;
           behind = λ k d lt.
               let inside : (at + 1) + k < length rows = omega (arith, lt, length-drop (at + 1) rows) in
               subst (λ (row : ItemRow). key_cmp key row.key ≡ Less) (sym (get_or-drop (at + 1) rows k d))
-              (sym (total.congr (get_or rows at d).key key (get_or rows ((at + 1) + k) d).key (here d)) ∙ order at ((at + 1) + k) d (omega arith) inside);
+              (sym (key_cmp-total.congr (get_or rows at d).key key (get_or rows ((at + 1) + k) d).key (here d)) ∙ order at ((at + 1) + k) d (omega arith) inside);
         }
 
     pub missing : (at : ℕ) → r ≡ Err at → IsGap rows key at
@@ -158,7 +163,7 @@ module _ (rows : List ItemRow) (order : InOrder rows) where
               subst (λ (row : ItemRow). key_cmp row.key key ≡ Less) (sym (get_or-take at rows k d short)) (point.0 k d (omega arith) short);
           behind = λ k d lt.
               let inside : at + k < length rows = omega (arith, lt, length-drop at rows) in
-              subst (λ (row : ItemRow). key_cmp key row.key ≡ Less) (sym (get_or-drop at rows k d)) (to_less _ key (point.1 (at + k) d (omega arith) inside));
+              subst (λ (row : ItemRow). key_cmp key row.key ≡ Less) (sym (get_or-drop at rows k d)) (key_cmp-Greater _ key (point.1 (at + k) d (omega arith) inside));
         }
 
     pub if_found : IfOk r (IsPlace rows key)
@@ -175,20 +180,20 @@ is key row = same_key row.key key
 passes_over : (key : Key) (xs ys : List ItemRow) → All (λ (row : ItemRow). key_cmp row.key key ≡ Less) xs → find_row (xs ++ ys) key ≡ find_row ys key
 passes_over key [] ys all = refl
 passes_over key (x ∷ xs) ys all =
-    ap (λ b. cond b (Some x) (find (is key) (xs ++ ys))) (other_at_less x.key key (All-head (λ (row : ItemRow). key_cmp row.key key ≡ Less) x xs all))
+    ap (λ b. cond b (Some x) (find (is key) (xs ++ ys))) (same_key-Less x.key key (All-head (λ (row : ItemRow). key_cmp row.key key ≡ Less) x xs all))
     ∙ passes_over key xs ys (All-tail (λ (row : ItemRow). key_cmp row.key key ≡ Less) x xs all)
 
 finds_none : (key : Key) (xs : List ItemRow) → All (λ (row : ItemRow). key_cmp key row.key ≡ Less) xs → find_row xs key ≡ None
 finds_none key [] all = refl
 finds_none key (x ∷ xs) all =
-    ap (λ b. cond b (Some x) (find (is key) xs)) (other_at_greater x.key key (All-head (λ (row : ItemRow). key_cmp key row.key ≡ Less) x xs all))
+    ap (λ b. cond b (Some x) (find (is key) xs)) (other_behind x.key key (All-head (λ (row : ItemRow). key_cmp key row.key ≡ Less) x xs all))
     ∙ finds_none key xs (All-tail (λ (row : ItemRow). key_cmp key row.key ≡ Less) x xs all)
 
 pub at_place : (rows : List ItemRow) (key : Key) (at : ℕ) (d : ItemRow) → IsPlace rows key at → find_row rows key ≡ Some (get_or rows at d)
 at_place rows key at d place =
     let whole : rows ≡ take at rows ++ get_or rows at d ∷ drop (suc at) rows = sym (take-append-drop at rows) ∙ ap (λ l. take at rows ++ l) (drop-cons rows at d place.within) in
     ap (λ l. find_row l key) whole ∙ passes_over key (take at rows) (get_or rows at d ∷ drop (suc at) rows) place.before
-    ∙ ap (λ b. cond b (Some (get_or rows at d)) (find_row (drop (suc at) rows) key)) (same_at_equal (get_or rows at d).key key (place.here d))
+    ∙ ap (λ b. cond b (Some (get_or rows at d)) (find_row (drop (suc at) rows) key)) (same_key-Equal (get_or rows at d).key key (place.here d))
 
 pub at_gap : (rows : List ItemRow) (key : Key) (at : ℕ) → IsGap rows key at → find_row rows key ≡ None
 at_gap rows key at gap =
@@ -199,10 +204,13 @@ at_gap rows key at gap =
 abbrev file_is : Key → ItemRow → Bool
 file_is key row = same_key row.key key && is_some row.file
 
+abbrev has_file_row : List ItemRow → Key → Bool
+has_file_row rows key = list_any (file_is key) rows
+
 no_file_behind : (key : Key) (xs : List ItemRow) → All (λ (row : ItemRow). key_cmp key row.key ≡ Less) xs → has_file_row xs key ≡ false
 no_file_behind key [] all = refl
 no_file_behind key (x ∷ xs) all =
-    ap (λ b. (b && is_some x.file) || list_any (file_is key) xs) (other_at_greater x.key key (All-head (λ (row : ItemRow). key_cmp key row.key ≡ Less) x xs all))
+    ap (λ b. (b && is_some x.file) || list_any (file_is key) xs) (other_behind x.key key (All-head (λ (row : ItemRow). key_cmp key row.key ≡ Less) x xs all))
     ∙ no_file_behind key xs (All-tail (λ (row : ItemRow). key_cmp key row.key ≡ Less) x xs all)
 
 -- whether the row that is found is a file
@@ -216,22 +224,42 @@ any_by false rest e = e
 
 file_by : (o : Ordering) (key : Key) (x : ItemRow) (xs : List ItemRow) → key_cmp x.key key ≡ o → InOrder (x ∷ xs) → has_file_row xs key ≡ is_file_at (find_row xs key) → has_file_row (x ∷ xs) key ≡ is_file_at (find_row (x ∷ xs) key)
 file_by Less key x xs is_less order rest =
-    let not_here = other_at_less x.key key is_less in
+    let not_here = same_key-Less x.key key is_less in
     ap (λ b. (b && is_some x.file) || has_file_row xs key) not_here ∙ rest ∙ sym (ap (λ b. is_file_at (cond b (Some x) (find_row xs key))) not_here)
 file_by Equal key x xs is_equal order rest =
-    let is_here = same_at_equal x.key key is_equal in
-    let behind : All (λ (row : ItemRow). key_cmp key row.key ≡ Less) xs = λ k d lt. sym (total.congr x.key key (get_or xs k d).key is_equal) ∙ order zero (suc k) d (omega arith) (omega arith) in
+    let is_here = same_key-Equal x.key key is_equal in
+    let behind : All (λ (row : ItemRow). key_cmp key row.key ≡ Less) xs = λ k d lt. sym (key_cmp-total.congr x.key key (get_or xs k d).key is_equal) ∙ order zero (suc k) d (omega arith) (omega arith) in
     ap (λ b. (b && is_some x.file) || has_file_row xs key) is_here ∙ any_by (is_some x.file) (has_file_row xs key) (no_file_behind key xs behind)
     ∙ sym (ap (λ b. is_file_at (cond b (Some x) (find_row xs key))) is_here)
 file_by Greater key x xs is_greater order rest =
-    let not_here = other_at_greater x.key key (to_less x.key key is_greater) in
+    let not_here = other_behind x.key key (key_cmp-Greater x.key key is_greater) in
     ap (λ b. (b && is_some x.file) || has_file_row xs key) not_here ∙ rest ∙ sym (ap (λ b. is_file_at (cond b (Some x) (find_row xs key))) not_here)
 
 -- in the default order the row that is found tells it
-pub file_found : (rows : List ItemRow) (key : Key) → InOrder rows → has_file_row rows key ≡ is_file_at (find_row rows key)
+file_found : (rows : List ItemRow) (key : Key) → InOrder rows → has_file_row rows key ≡ is_file_at (find_row rows key)
 file_found [] key order = refl
 file_found (x ∷ xs) key order =
     file_by (key_cmp x.key key) key x xs refl order (file_found xs key (λ i j d lt within. order (suc i) (suc j) d (omega arith) (omega arith)))
+
+-- the items of rows are looked up alike
+has_found : (rows : List ItemRow) (key : Key) → is_some (find_row rows key) ≡ has_item (items_of rows) key
+has_found rows key = any_is_find (λ (row : ItemRow). same_key row.key key) rows
+    ∙ sym (list_any-map item_of_row (λ (row : ItemRow). same_key row.key key) (λ item. same_key item.key key) (λ row. refl) rows)
+  where
+    any_is_find : (p : ItemRow → Bool) (xs : List ItemRow) → is_some (find p xs) ≡ list_any p xs
+    any_is_find p [] = refl
+    any_is_find p (x ∷ xs) = rw (sym (any_is_find p xs)) (elim (p x) as (λ b. is_some (cond b (Some x) (find p xs)) ≡ (b || is_some (find p xs))) [ true ↦ refl | false ↦ refl ])
+
+pub has_copied : (found : Option (Bor ItemRow)) (rows : List ItemRow) (key : Key) → option_copied found ≡ find_row rows key → is_some found ≡ has_item (items_of rows) key
+has_copied found rows key is = copied found ∙ ap is_some is ∙ has_found rows key
+  where
+    copied : (o : Option (Bor ItemRow)) → is_some o ≡ is_some (option_copied o)
+    copied None = refl
+    copied (Some row) = refl
+
+pub file_at : (rows : List ItemRow) (key : Key) → InOrder rows → is_file_at (find_row rows key) ≡ has_file (items_of rows) key
+file_at rows key order = sym (file_found rows key order)
+    ∙ sym (list_any-map item_of_row (file_is key) (λ item. same_key item.key key && is_file item) (λ row. refl) rows)
 
 -- ---- a row that is changed in its place
 
@@ -251,16 +279,16 @@ module _ (f : ItemRow → ItemRow) (key : Key) where
       let whole : rows ≡ take at rows ++ old ∷ drop (suc at) rows = sym (take-append-drop at rows) ∙ ap (λ l. take at rows ++ l) (drop-cons rows at d place.within) in
       let behind : All (λ (row : ItemRow). key_cmp key row.key ≡ Less) (drop (suc at) rows) = subst (λ (n : ℕ). All (λ (row : ItemRow). key_cmp key row.key ≡ Less) (drop n rows)) (add-one at) place.behind in
       ap (map change) whole ∙ map-append change (take at rows) (old ∷ drop (suc at) rows)
-      ∙ ap (λ l. l ++ change old ∷ map change (drop (suc at) rows)) (changes_none f key (take at rows) (λ k e lt. other_at_less _ key (place.before k e lt)))
-      ∙ ap (λ l. take at rows ++ change old ∷ l) (changes_none f key (drop (suc at) rows) (λ k e lt. other_at_greater _ key (behind k e lt)))
-      ∙ ap (λ b. take at rows ++ cond b (f old) old ∷ drop (suc at) rows) (same_at_equal old.key key (place.here d))
+      ∙ ap (λ l. l ++ change old ∷ map change (drop (suc at) rows)) (changes_none f key (take at rows) (λ k e lt. same_key-Less _ key (place.before k e lt)))
+      ∙ ap (λ l. take at rows ++ change old ∷ l) (changes_none f key (drop (suc at) rows) (λ k e lt. other_behind _ key (behind k e lt)))
+      ∙ ap (λ b. take at rows ++ cond b (f old) old ∷ drop (suc at) rows) (same_key-Equal old.key key (place.here d))
       ∙ sym (set_split rows at (f old) place.within)
 
   pub change_at_gap : (rows : List ItemRow) (at : ℕ) → IsGap rows key at → map change rows ≡ rows
   change_at_gap rows at gap =
       ap (map change) (sym (take-append-drop at rows)) ∙ map-append change (take at rows) (drop at rows)
-      ∙ ap (λ l. l ++ map change (drop at rows)) (changes_none f key (take at rows) (λ k e lt. other_at_less _ key (gap.before k e lt)))
-      ∙ ap (λ l. take at rows ++ l) (changes_none f key (drop at rows) (λ k e lt. other_at_greater _ key (gap.behind k e lt)))
+      ∙ ap (λ l. l ++ map change (drop at rows)) (changes_none f key (take at rows) (λ k e lt. same_key-Less _ key (gap.before k e lt)))
+      ∙ ap (λ l. take at rows ++ l) (changes_none f key (drop at rows) (λ k e lt. other_behind _ key (gap.behind k e lt)))
       ∙ take-append-drop at rows
 
 -- rows that keep their keys keep their order
@@ -300,7 +328,7 @@ put_in_order new rows order =
     let behind : All (λ y. Before new y) (filter more rows) = All-weaker (λ y. more y ≡ true) (λ y. Before new y) (λ y e. less_by (key_cmp new.key y.key) e) (filter more rows) (filter_passes more rows) in
     pairs_append (filter less rows) (new ∷ filter more rows)
     (All-weaker (λ x. Before x new) (λ x. All (Before x) (new ∷ filter more rows))
-    (λ x e. All-cons (Before x) new (filter more rows) e (All-weaker (λ y. Before new y) (Before x) (λ y f. total.trans x.key new.key y.key e f) (filter more rows) behind))
+    (λ x e. All-cons (Before x) new (filter more rows) e (All-weaker (λ y. Before new y) (Before x) (λ y f. key_cmp-total.trans x.key new.key y.key e f) (filter more rows) behind))
     (filter less rows) before)
     (AllPairs-filter Before less rows order)
     (AllPairs-cons Before new (filter more rows) behind (AllPairs-filter Before more rows order))

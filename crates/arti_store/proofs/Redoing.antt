@@ -7,28 +7,29 @@ use Rattle.std.proofs.lemmas.List.{map-append, take_more}
 use Rattle.arti_journal.specs.Journal.{bodies_of}
 use Rattle.arti_rows.specs.declared.limits.Limits.{Limits}
 use Rattle.arti_rows.specs.declared.rows.FileRef.{FileRef}
-use Rattle.arti_rows.specs.declared.rows.ItemRow.{ItemRow}
 use Rattle.arti_rows.specs.declared.edits.Change.{Change}
 use Rattle.arti_codec.specs.ChangeBytes.{ChangeBytes}
+use Rattle.arti_model.specs.Store.{Item}
+use Rattle.arti_model.specs.Apply.{edited_by}
 use Rattle.arti_store.specs.Changes.{references_of}
-use Rattle.arti_store.specs.Edited.{rows_edited_by, rows_after, accepts_change, accepts_changes}
-use Rattle.arti_store.specs.Replays.{Replays, ReplaysNot}
+use Rattle.arti_store.specs.Replays.{itself, items_after, is_accepted, are_accepted, Replays, ReplaysNot}
 use Rattle.arti_store.proofs.References.{references-push}
 use Rattle.arti_store.proofs.Commits.{zip_push}
 
-rows_after-push : (changes : List Change) (change : Change) (rows : List ItemRow) → rows_after (changes ++ change ∷ []) rows ≡ rows_edited_by change.moment change.user change.edits (rows_after changes rows)
-rows_after-push [] change rows = refl
-rows_after-push (c ∷ changes) change rows = rows_after-push changes change (rows_edited_by c.moment c.user c.edits rows)
+items_after-push : (changes : List Change) (change : Change) (items : List (Item FileRef)) → items_after itself (changes ++ change ∷ []) items ≡ edited_by itself change.moment change.user change.edits (items_after itself changes items)
+items_after-push [] change items = refl
+items_after-push (c ∷ changes) change items = items_after-push changes change (edited_by itself c.moment c.user c.edits items)
 
 and_assoc : (a b c : Bool) → (a && (b && c)) ≡ ((a && b) && c)
 and_assoc true b c = refl
 and_assoc false b c = refl
 
-accepts-append : (limits : Limits) (changes others : List Change) (rows : List ItemRow) → accepts_changes limits (changes ++ others) rows ≡ (accepts_changes limits changes rows && accepts_changes limits others (rows_after changes rows))
-accepts-append limits [] others rows = refl
-accepts-append limits (c ∷ changes) others rows =
-    ap (λ b. accepts_change limits c rows && b) (accepts-append limits changes others (rows_edited_by c.moment c.user c.edits rows))
-    ∙ and_assoc (accepts_change limits c rows) (accepts_changes limits changes (rows_edited_by c.moment c.user c.edits rows)) _
+accepted-append : (limits : Limits) (changes others : List Change) (items : List (Item FileRef))
+    → are_accepted limits itself (changes ++ others) items ≡ (are_accepted limits itself changes items && are_accepted limits itself others (items_after itself changes items))
+accepted-append limits [] others items = refl
+accepted-append limits (c ∷ changes) others items =
+    ap (λ b. is_accepted limits itself c items && b) (accepted-append limits changes others (edited_by itself c.moment c.user c.edits items))
+    ∙ and_assoc (is_accepted limits itself c items) (are_accepted limits itself changes (edited_by itself c.moment c.user c.edits items)) _
 
 true_and : (a b : Bool) → a ≡ true → (a && b) ≡ b
 true_and true b e = refl
@@ -43,19 +44,19 @@ false_and true b e = cc
 false_and false b e = refl
 
 pub redone_none : (limits : Limits) → Replays limits [] [] []
-redone_none limits = record { changes = []; each = tt; accepted = refl; rows_are = refl; files_are = refl }
+redone_none limits = record { changes = []; each = tt; accepted = refl; items_are = refl; files_are = refl }
 
 -- one more
-pub redone_more : (limits : Limits) (bodies : List (List ℕ)) (rows : List ItemRow) (files : List FileRef) (body : List ℕ) (change : Change) → Replays limits bodies rows files → ChangeBytes body change → accepts_change limits change rows ≡ true
-    → Replays limits (bodies ++ body ∷ []) (rows_edited_by change.moment change.user change.edits rows) (files ++ references_of change.edits)
-redone_more limits bodies rows files body change done one its =
-    let after : rows_after done.changes [] ≡ rows = sym done.rows_are in
+pub redone_more : (limits : Limits) (bodies : List (List ℕ)) (items : List (Item FileRef)) (files : List FileRef) (body : List ℕ) (change : Change) → Replays limits bodies items files → ChangeBytes body change → is_accepted limits itself change items ≡ true
+    → Replays limits (bodies ++ body ∷ []) (edited_by itself change.moment change.user change.edits items) (files ++ references_of change.edits)
+redone_more limits bodies items files body change done one its =
+    let after : items_after itself done.changes [] ≡ items = sym done.items_are in
     record {
       changes = done.changes ++ change ∷ [];
       each = zip_push bodies done.changes body change done.each one;
-      accepted = accepts-append limits done.changes (change ∷ []) [] ∙ true_and (accepts_changes limits done.changes []) _ done.accepted
-          ∙ ap (λ (l : List ItemRow). accepts_change limits change l && true) after ∙ ap (λ b. b && true) its;
-      rows_are = sym (rows_after-push done.changes change [] ∙ ap (rows_edited_by change.moment change.user change.edits) after);
+      accepted = accepted-append limits done.changes (change ∷ []) [] ∙ true_and (are_accepted limits itself done.changes []) _ done.accepted
+          ∙ ap (λ (l : List (Item FileRef)). is_accepted limits itself change l && true) after ∙ ap (λ b. b && true) its;
+      items_are = sym (items_after-push done.changes change [] ∙ ap (edited_by itself change.moment change.user change.edits) after);
       files_are = ap (λ l. l ++ references_of change.edits) done.files_are ∙ sym (references-push done.changes change);
     }
 
@@ -81,17 +82,17 @@ pub redone_no_change : (limits : Limits) (bodies rest : List (List ℕ)) (body :
 redone_no_change limits bodies rest body none = λ changes each. let p = parts bodies rest body changes each in absurd (none p.one p.here)
 
 -- a change that isn't accepted
-pub redone_refused : (limits : Limits) (bodies rest : List (List ℕ)) (rows : List ItemRow) (files : List FileRef) (body : List ℕ) (change : Change) → Replays limits bodies rows files
+pub redone_refused : (limits : Limits) (bodies rest : List (List ℕ)) (items : List (Item FileRef)) (files : List FileRef) (body : List ℕ) (change : Change) → Replays limits bodies items files
     → ((bs : List (List ℕ)) (cs ds : List Change) → AllZip ChangeBytes bs cs → AllZip ChangeBytes bs ds → cs ≡ ds) → ((d : Change) → ChangeBytes body d → change ≡ d)
-    → accepts_change limits change rows ≡ false → ReplaysNot limits (bodies ++ body ∷ rest)
-redone_refused limits bodies rest rows files body change done zips only refused = λ changes each.
+    → is_accepted limits itself change items ≡ false → ReplaysNot limits (bodies ++ body ∷ rest)
+redone_refused limits bodies rest items files body change done zips only refused = λ changes each.
     let p = parts bodies rest body changes each in
     let same : p.before ≡ done.changes = zips bodies p.before done.changes p.each done.each in
-    let at : accepts_change limits p.one (rows_after p.before []) ≡ false =
-    ap (λ (c : Change). accepts_change limits c (rows_after p.before [])) (sym (only p.one p.here)) ∙ ap (λ (l : List Change). accepts_change limits change (rows_after l [])) same
-    ∙ ap (accepts_change limits change) (sym done.rows_are) ∙ refused in
-    ap (λ (l : List Change). accepts_changes limits l []) p.whole ∙ accepts-append limits p.before (p.one ∷ p.behind) []
-    ∙ and_false (accepts_changes limits p.before []) _ (false_and (accepts_change limits p.one (rows_after p.before [])) _ at)
+    let at : is_accepted limits itself p.one (items_after itself p.before []) ≡ false =
+    ap (λ (c : Change). is_accepted limits itself c (items_after itself p.before [])) (sym (only p.one p.here)) ∙ ap (λ (l : List Change). is_accepted limits itself change (items_after itself l [])) same
+    ∙ ap (is_accepted limits itself change) (sym done.items_are) ∙ refused in
+    ap (λ (l : List Change). are_accepted limits itself l []) p.whole ∙ accepted-append limits p.before (p.one ∷ p.behind) []
+    ∙ and_false (are_accepted limits itself p.before []) _ (false_and (is_accepted limits itself p.one (items_after itself p.before [])) _ at)
 
 -- bodies are the bytes of one list of changes
 pub zip_once : ((bytes : List ℕ) (c d : Change) → ChangeBytes bytes c → ChangeBytes bytes d → c ≡ d) → (bodies : List (List ℕ)) (cs ds : List Change) → AllZip ChangeBytes bodies cs → AllZip ChangeBytes bodies ds → cs ≡ ds

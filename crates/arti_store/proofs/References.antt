@@ -1,15 +1,14 @@
 -- References of kept contents.
-use Rattle.std.proofs.Common.{◌≡◌, inl, inr, ⊎_elim, ℕ, ◌+◌, ◌<◌, ◌≤◌, zero, suc, Bool, true, false, cond, List, [], ◌∷◌, ◌++◌, length, get_or, drop, refl, sym, ◌∙◌, ap, subst, arith, append_assoc, length-take, length-drop}
+use Rattle.std.proofs.Common.{◌≡◌, inl, inr, ⊎_elim, ℕ, ◌+◌, ◌<◌, zero, suc, Bool, true, false, cond, List, [], ◌∷◌, ◌++◌, length, get_or, drop, refl, sym, ◌∙◌, ap, subst, arith, append_assoc}
 use Rattle.std.specs.Prelude.{All, Contains, ◌≢◌, ◌↔◌}
 use Rattle.std.proofs.lemmas.List.{append-nil, drop_more}
-use Rattle.std.proofs.lemmas.List.Elements.{All-nil, All-cons, All-head, All-tail, All-push, All-weaker, Contains-append_left, Contains-push, Contains-push_cases, Contains-get_or, Contains-append_right, Contains-append_cases}
+use Rattle.std.proofs.lemmas.List.Elements.{All-nil, All-cons, All-head, All-tail, All-push, Contains-append_left, Contains-push, Contains-push_cases, Contains-get_or, Contains-append_right, Contains-append_cases}
 use Rattle.std.proofs.lemmas.List.Kept.{AllPairs-cons}
-use Rattle.std.proofs.lemmas.List.Sums.{sum_by_push}
 use Rattle.arti_rows.specs.declared.rows.FileRef.{FileRef}
 use Rattle.arti_rows.specs.declared.edits.Edit.{Edit}
 use Rattle.arti_rows.specs.declared.edits.Change.{Change}
 use Rattle.arti_blobs.specs.declared.staging.Staged.{Staged}
-use Rattle.arti_blobs.specs.Contents.{content, end_of, Keeps, kept_with}
+use Rattle.arti_blobs.specs.Contents.{end_of, Keeps, kept_with}
 use Rattle.arti_store.specs.Items.{file_in}
 use Rattle.arti_store.specs.Changes.{edit_references, references_of, references}
 use Rattle.arti_store.specs.Store.{AreDistinct, IsFresh}

@@ -3,21 +3,22 @@ use Rattle.std.proofs.Common.{◌≡◌, inl, inr, ◌≤◌, ℕ, Bool, true, f
 use Rattle.std.specs.Prelude.{All, ◌⊎◌}
 use Rattle.std.specs.List.{AllZip}
 use Rattle.std.proofs.lemmas.List.Elements.{All-nil, All-cons, All-head, All-tail, All-push, All-append, All-contains}
+use Rattle.arti_rows.specs.Sizes.{most_content}
 use Rattle.arti_rows.specs.declared.limits.Limits.{Limits}
 use Rattle.arti_rows.specs.declared.rows.FileRef.{FileRef}
-use Rattle.arti_rows.specs.declared.rows.ItemRow.{ItemRow}
 use Rattle.arti_rows.specs.declared.edits.Edit.{Edit}
 use Rattle.arti_rows.specs.declared.edits.Edit.TheVariants as edits
 use Rattle.arti_rows.specs.declared.edits.Change.{Change}
 use Rattle.arti_blobs.specs.declared.staging.Staged.{Staged}
 use Rattle.arti_blobs.specs.Contents.{Keeps}
 use Rattle.arti_codec.specs.ChangeBytes.{file_ref, file_fields, edit, edit_list, change, HasBytes, ChangeBytes}
+use Rattle.arti_model.specs.Store.{Item}
 use Rattle.arti_store.specs.Changes.{edit_references, references_of, references}
 use Rattle.arti_store.specs.Replays.{Replays}
 use Rattle.arti_store.specs.Store.{kept_and, AddsSome}
 
 abbrev pub IsShort : FileRef → Type 0
-IsShort file = file.len ≤ 67108864
+IsShort file = file.len ≤ most_content
 
 edit_short : (e : Edit) → edit.keeps e → All IsShort (edit_references e)
 unfolding edit file_fields file_ref
@@ -60,8 +61,8 @@ keeps_short (file ∷ files) kept all (inl same) old new = keeps_short files kep
 keeps_short (file ∷ files) kept all (inr more) old new =
     keeps_short files (kept ++ file ∷ []) all more.2 (All-push IsShort kept file old (All-head IsShort file files new)) (All-tail IsShort file files new)
 
-pub opened_short : (limits : Limits) (bodies : List (List ℕ)) (rows : List ItemRow) (names kept : List FileRef) → Replays limits bodies rows names → Keeps [] names kept → All IsShort kept
-opened_short limits bodies rows names kept replays keeps =
+pub opened_short : (limits : Limits) (bodies : List (List ℕ)) (items : List (Item FileRef)) (names kept : List FileRef) → Replays limits bodies items names → Keeps [] names kept → All IsShort kept
+opened_short limits bodies items names kept replays keeps =
     keeps_short names [] kept keeps (All-nil IsShort) (subst (λ (l : List FileRef). All IsShort l) (sym replays.files_are) (zip_short bodies replays.changes replays.each))
 
 -- what is kept with the added content, which a change names

@@ -1,7 +1,6 @@
 pub mod Items
 pub mod Places
 pub mod Changes
-pub mod Edited
 pub mod Store
 pub mod Replays
 pub mod ImageLaws

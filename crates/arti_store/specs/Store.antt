@@ -1,6 +1,7 @@
 -- What a store is, and what files stand for (of this project).
 use Rattle.std.specs.Prelude.{◌≡◌, ◌≢◌, ◌⊎◌, ℕ, ◌+◌, ◌-◌, ◌^◌, ◌<◌, ◌≤◌, min, List, [], ◌∷◌, length, map, IsTrue, Option, None, Some, AllPairs, Contains}
 use Rattle.std.specs.List.{AllZip}
+use Rattle.arti_rows.specs.Sizes.{journal_file, contents_file}
 use Rattle.arti_rows.specs.declared.limits.Limits.{Limits}
 use Rattle.arti_rows.specs.declared.rows.FileRef.{FileRef}
 use Rattle.arti_rows.specs.declared.rows.ItemRow.{ItemRow}
@@ -12,6 +13,7 @@ use Rattle.arti_blobs.specs.Contents.{Contents, content, end_of, Keeps, HasPair,
 use Rattle.arti_codec.specs.ChangeBytes.{ChangeBytes}
 use Rattle.arti_model.specs.Store.{File}
 use Rattle.arti_model.specs.Apply.{Holding, nothing_kept, apply, apply_all, refusal}
+use Rattle.arti_model.specs.Stock.{most_body}
 use Rattle.arti_store.specs.Items.{file_in, items_in}
 use Rattle.arti_store.specs.Changes.{references}
 
@@ -25,7 +27,7 @@ pub record View : Type 0 where
   pub commits : ℕ
   pub closed : Option ℕ
 
--- what a store has, where file 3 has these bytes
+-- what a store has, where the file of the contents has these bytes
 abbrev pub holding_of : List ℕ → View → Holding
 holding_of bytes v = record { repository = record { items = items_in bytes v.rows }; kept = map (file_in bytes) v.contents.kept }
 
@@ -38,7 +40,7 @@ Accepted limits file_of (change ∷ changes) h = (refusal limits file_of change 
 abbrev pub AreDistinct : List ℕ → List FileRef → Type 0
 AreDistinct bytes kept = AllPairs (λ a b. file_in bytes a ≢ file_in bytes b) kept
 
--- Changes make a holding over the bytes of file 3: each is accepted, and each reference in them is an earlier one again, or begins where
+-- Changes make a holding over the bytes of the contents' file: each is accepted, and each reference in them is an earlier one again, or begins where
 -- the kept contents before it end and is a new pair; none passes the file's end or 2^62.
 pub record Makes (limits : Limits) (changes : List Change) (bytes : List ℕ) (kept : List FileRef) (h : Holding) : Type 0 where
   pub accepted : Accepted limits (file_in bytes) changes nothing_kept
@@ -53,19 +55,19 @@ pub record Stands (limits : Limits) (files : Bytes) (h : Holding) (used : ℕ) :
   pub bodies : List (List ℕ)
   pub changes : List Change
   pub kept : List FileRef
-  pub journal : IsJournal bodies (files 1)
+  pub journal : IsJournal bodies (files journal_file)
   pub each : AllZip ChangeBytes bodies changes
-  pub makes : Makes limits changes (files 3) kept h
+  pub makes : Makes limits changes (files contents_file) kept h
   pub used_is : used ≡ length (opened bodies) + 1
 
 -- The ground holds the store: its files as read and every image of them stand for it.
 pub record HoldsOpen (s : State) (v : View) : Type 0 where
   pub bodies : List (List ℕ)
   pub changes : List Change
-  pub journal : HoldsJournal s 1 v.used bodies
+  pub journal : HoldsJournal s journal_file v.used bodies
   pub each : AllZip ChangeBytes bodies changes
-  pub reads : Makes v.limits changes (s.files 3) v.contents.kept (holding_of (s.files 3) v)
-  pub images : (c : Bytes) → s.may_leave c → Makes v.limits changes (c 3) v.contents.kept (holding_of (s.files 3) v)
+  pub reads : Makes v.limits changes (s.files contents_file) v.contents.kept (holding_of (s.files contents_file) v)
+  pub images : (c : Bytes) → s.may_leave c → Makes v.limits changes (c contents_file) v.contents.kept (holding_of (s.files contents_file) v)
   pub contents : HoldsContents s v.contents
 
 -- the same, unless the store is closed
@@ -75,7 +77,7 @@ HoldsStore s v = v.closed ≡ None → HoldsOpen s v
 -- at a moment of a call that changes nothing: as much was told as at its start, and the image stands for the store of its start
 pub record Standing (start : State) (v : View) (c w : Bytes) : Type 0 where
   pub told : w ≡ start.told
-  pub image : Stands v.limits c (holding_of (start.files 3) v) v.used
+  pub image : Stands v.limits c (holding_of (start.files contents_file) v) v.used
 
 -- at a moment of an opening: the image stands for whatever the files stood for at its start
 pub record Reopening (start : State) (limits : Limits) (c w : Bytes) : Type 0 where
@@ -123,7 +125,7 @@ pub record PassesBlobs (v : View) (files : List FileRef) (content : Option Stage
 
 -- a journal of which so much is used would pass its limit, or the body is too long for a record
 abbrev pub PassesJournal : Limits → ℕ → List ℕ → Type 0
-PassesJournal limits used body = (67_108_864 < length body) ⊎ (limits.journal < used + 5 + length body)
+PassesJournal limits used body = (most_body < length body) ⊎ (limits.journal < used + 5 + length body)
 
 -- a count that rises by one, and stands still at its type's end
 abbrev pub next_of : ℕ → ℕ

@@ -4,9 +4,11 @@ ghost use Rattle.arti_rows.specs.declared.rows.FileRef.{FileRef};
 ghost use Rattle.arti_rows.specs.declared.refusal.Which.{Which};
 ghost use Rattle.arti_blobs.specs.Contents.{Contents, end_of};
 ghost use Rattle.arti_codec.specs.ChangeBytes.{HasBytes, ChangeBytes};
-ghost use Rattle.arti_store.specs.Items.{HasFileIn};
+ghost use Rattle.arti_model.specs.Apply.{edited_by};
+ghost use Rattle.arti_model.specs.Stock.{most_body};
+ghost use Rattle.arti_store.specs.Items.{HasFileIn, items_of};
 ghost use Rattle.arti_store.specs.Changes.{edit_references, references_of};
-ghost use Rattle.arti_store.specs.Edited.{rows_edited_by};
+ghost use Rattle.arti_store.specs.Replays.{itself};
 ghost use Rattle.arti_store.specs.Store.{kept_and, MayKeep, IsAdded, AddsSome};
 
 use crate::CommitFault;
@@ -60,8 +62,8 @@ fn is_named(edit: &Edit, wanted: &FileRef) -> bool
 pub(crate) fn frame_change(alloc: Global, change: &Change) -> Result<Framed, CommitFault>
     requires { HasBytes change.now }
     ensures body { IfOk result (λ f. ChangeBytes f change.now) }
-    ensures fits { IfOk result (λ f. length f ≤ 67_108_864) }
-    ensures too_long { IsErrOf result (CommitFault.Full Which.Journal) → (body : List ℕ) → ChangeBytes body change.now → 67_108_864 < length body }
+    ensures fits { IfOk result (λ f. length f ≤ most_body) }
+    ensures too_long { IsErrOf result (CommitFault.Full Which.Journal) → (body : List ℕ) → ChangeBytes body change.now → most_body < length body }
     ensures only { OnErr result ((result ≡ Err (CommitFault.Full Which.Journal)) ⊎ (result ≡ Err CommitFault.Memory)) }
 {
     let body = match encode(alloc, change) {
@@ -82,17 +84,17 @@ pub(crate) fn take_up(
     blobs: &mut Blobs,
     rows: &mut Rows,
     limit: u64,
-    change: Change,
+    change: &Change,
     added: Option<Staged>,
 ) -> Result<(), AllocError>
     requires may { MayKeep blobs.old added }
     requires room { IfSome added (λ s. end_of blobs.old.kept + s.file.len ≤ limit) }
     requires files { All (HasFileIn blobs.old.kept) rows.old }
-    requires references { All (Contains (kept_and blobs.old.kept added)) (references_of change.edits) }
+    requires references { All (Contains (kept_and blobs.old.kept added)) (references_of change.now.edits) }
     ensures kept { OnOk result (blobs.new.kept ≡ kept_and blobs.old.kept added) }
     ensures either { (blobs.new.kept ≡ blobs.old.kept) ⊎ (blobs.new.kept ≡ kept_and blobs.old.kept added) }
     ensures staging { blobs.new.staging ≡ blobs.old.staging }
-    ensures rows { OnOk result (rows.new ≡ rows_edited_by change.moment change.user change.edits rows.old) }
+    ensures rows { OnOk result (items_of rows.new ≡ edited_by itself change.now.moment change.now.user change.now.edits (items_of rows.old)) }
     ensures files { All (HasFileIn blobs.new.kept) rows.new }
     ensures short { end_of blobs.new.kept ≤ max (end_of blobs.old.kept) limit }
 {

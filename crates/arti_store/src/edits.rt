@@ -3,18 +3,20 @@ ghost use Rattle.std.specs.Prelude.{◌≡◌, ◌++◌, ℕ, List, length, map,
 ghost use Rattle.std.specs.Option.{option_copied};
 ghost use Rattle.arti_rows.specs.declared.rows.FileRef.{FileRef};
 ghost use Rattle.arti_rows.specs.declared.edits.Edit.{Edit};
-ghost use Rattle.arti_store.specs.Items.{HasFileIn};
+ghost use Rattle.arti_model.specs.Store.{has_item, missing_folders};
+ghost use Rattle.arti_model.specs.Apply.{with_folder, with_deployed, edited, edited_by};
+ghost use Rattle.arti_store.specs.Items.{HasFileIn, items_of, folder_row, file_row};
 ghost use Rattle.arti_store.specs.Changes.{references_of};
-ghost use Rattle.arti_store.specs.Edited.{has_row, folder_row, folders_for, file_row, rows_with_folder, rows_with_file, rows_edited, rows_edited_by};
+ghost use Rattle.arti_store.specs.Replays.{itself};
 
 use crate::rows::Rows;
 use arti_rows::{Change, Edit, FileRef, Given, ItemKey, ItemRow, Moment, Property, Seq, Text};
 use std::alloc::{AllocError, Global};
 
 /// Does the edits of a change, one after the other. After an `Err` some of the first were done.
-pub(crate) fn do_all(alloc: Global, rows: &mut Rows, change: Change) -> Result<(), AllocError>
-    ensures done { OnOk result (rows.new ≡ rows_edited_by change.moment change.user change.edits rows.old) }
-    ensures files { (kept : List FileRef) → All (HasFileIn kept) rows.old → All (Contains kept) (references_of change.edits) → All (HasFileIn kept) rows.new }
+pub(crate) fn do_all(alloc: Global, rows: &mut Rows, change: &Change) -> Result<(), AllocError>
+    ensures done { OnOk result (items_of rows.new ≡ edited_by itself change.now.moment change.now.user change.now.edits (items_of rows.old)) }
+    ensures files { (kept : List FileRef) → All (HasFileIn kept) rows.old → All (Contains kept) (references_of change.now.edits) → All (HasFileIn kept) rows.new }
 {
     do_each(
         alloc,
@@ -33,7 +35,7 @@ fn do_each(
     user: &Text,
     edits: &[Edit],
 ) -> Result<(), AllocError>
-    ensures done { OnOk result (rows.new ≡ rows_edited_by moment user.now edits.now rows.old) }
+    ensures done { OnOk result (items_of rows.new ≡ edited_by itself moment user.now edits.now (items_of rows.old)) }
     ensures files { (kept : List FileRef) → All (HasFileIn kept) rows.old → All (Contains kept) (references_of edits.now) → All (HasFileIn kept) rows.new }
 {
     for edit in edits {
@@ -50,7 +52,7 @@ pub(crate) fn do_one(
     user: &Text,
     edit: &Edit,
 ) -> Result<(), AllocError>
-    ensures done { OnOk result (rows.new ≡ rows_edited moment user.now edit.now rows.old) }
+    ensures done { OnOk result (items_of rows.new ≡ edited itself moment user.now edit.now (items_of rows.old)) }
     ensures unchanged { OnErr result (rows.new ≡ rows.old) }
 {
     match edit {
@@ -74,7 +76,7 @@ fn put_folder(
     user: &Text,
     key: &ItemKey,
 ) -> Result<(), AllocError>
-    ensures done { OnOk result (rows.new ≡ rows_with_folder rows.old moment user.now key.now) }
+    ensures done { OnOk result (items_of rows.new ≡ with_folder (items_of rows.old) moment user.now key.now) }
     ensures unchanged { OnErr result (rows.new ≡ rows.old) }
 {
     if rows.has(key) {
@@ -96,7 +98,7 @@ fn put_file(
     file: FileRef,
     props: &Seq<Property>,
 ) -> Result<(), AllocError>
-    ensures done { OnOk result (rows.new ≡ rows_with_file rows.old moment user.now key.now given file props.now) }
+    ensures done { OnOk result (items_of rows.new ≡ with_deployed (items_of rows.old) moment user.now key.now given file props.now) }
     ensures unchanged { OnErr result (rows.new ≡ rows.old) }
 {
     let mut news = folders_for(alloc, rows, moment, user, key)?;
@@ -132,7 +134,7 @@ fn folders_for(
     user: &Text,
     key: &ItemKey,
 ) -> Result<Vec<ItemRow>, AllocError>
-    ensures { IfOk result (λ v. v.items ≡ folders_for rows.now moment user.now key.now) }
+    ensures { IfOk result (λ v. v.items ≡ map (folder_row moment user.now) (missing_folders (items_of rows.now) key.now)) }
 {
     let folders = key.folders(alloc)?;
     made(alloc, rows, moment, user, folders)
@@ -146,7 +148,7 @@ fn made(
     user: &Text,
     folders: Vec<ItemKey>,
 ) -> Result<Vec<ItemRow>, AllocError>
-    ensures { IfOk result (λ v. v.items ≡ map (folder_row moment user.now) (filter (λ folder. not (has_row rows.now folder)) folders.items)) }
+    ensures { IfOk result (λ v. v.items ≡ map (folder_row moment user.now) (filter (λ folder. not (has_item (items_of rows.now) folder)) folders.items)) }
 {
     let mut news = Vec::new(alloc);
     for folder in folders {

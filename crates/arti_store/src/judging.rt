@@ -1,9 +1,10 @@
 // Which edits are accepted.
-ghost use Rattle.std.specs.Prelude.{◌≡◌, ◌+◌, ◌≤◌, ℕ, List, not, filter, length, IfOk, IsTrue};
+ghost use Rattle.std.specs.Prelude.{◌≡◌, ◌+◌, ◌≤◌, ◌&&◌, ◌||◌, ◌==◌, nat_le, ℕ, List, not, filter, length, is_none, IfOk, IsTrue};
 ghost use Rattle.std.specs.List.{list_any};
 ghost use Rattle.arti_rows.specs.Key.{folders_above};
-ghost use Rattle.arti_model.specs.Apply.{is_local};
-ghost use Rattle.arti_store.specs.Edited.{has_row, has_file_row, has_folder_row, has_room, count_with, may_put, accepts_edit};
+ghost use Rattle.arti_model.specs.Store.{has_item, has_file};
+ghost use Rattle.arti_model.specs.Apply.{is_local, has_folder, added_with, edit_refusal};
+ghost use Rattle.arti_store.specs.Items.{items_of};
 
 use crate::rows::Rows;
 use arti_rows::{Edit, ItemKey, Limits};
@@ -16,7 +17,7 @@ pub(crate) fn accepts(
     edit: &Edit,
     rows: &Rows,
 ) -> Result<bool, AllocError>
-    ensures { IfOk result (λ b. b ≡ accepts_edit limits.now edit.now rows.now) }
+    ensures { IfOk result (λ b. b ≡ is_none (edit_refusal limits.now edit.now (items_of rows.now))) }
 {
     match edit {
         Edit::Folder { key } => may_put(alloc, limits, rows, key, rows.has_file(key)),
@@ -34,7 +35,8 @@ fn may_put(
     key: &ItemKey,
     taken: bool,
 ) -> Result<bool, AllocError>
-    ensures { IfOk result (λ b. b ≡ may_put limits.now rows.now key.now taken) }
+    ensures { IfOk result (λ b. b ≡ (is_local key.now && not (list_any (has_file (items_of rows.now)) (folders_above key.now)) && not taken
+        && ((added_with (items_of rows.now) key.now == 0) || nat_le (length rows.now + added_with (items_of rows.now) key.now) limits.now.items))) }
 {
     if !is_local(key) {
         return Ok(false);
@@ -55,14 +57,14 @@ fn is_local(key: &ItemKey) -> bool
 
 // Whether a folder stands at the key.
 fn has_folder(rows: &Rows, key: &ItemKey) -> bool
-    ensures { result ≡ has_folder_row rows.now key.now }
+    ensures { result ≡ has_folder (items_of rows.now) key.now }
 {
     rows.has(key) && !rows.has_file(key)
 }
 
 // Whether a file stands at one of the keys.
 fn has_file_among(rows: &Rows, keys: &[ItemKey]) -> bool
-    ensures { result ≡ list_any (has_file_row rows.now) keys.now }
+    ensures { result ≡ list_any (has_file (items_of rows.now)) keys.now }
 {
     for key in keys {
         if rows.has_file(key) {
@@ -75,7 +77,7 @@ fn has_file_among(rows: &Rows, keys: &[ItemKey]) -> bool
 // How many of the folders above a key and of the key itself are missing.
 fn count_with(rows: &Rows, folders: &[ItemKey], key: &ItemKey) -> usize
     requires { folders.now ≡ folders_above key.now }
-    ensures { result ≡ count_with rows.now key.now }
+    ensures { result ≡ added_with (items_of rows.now) key.now }
 {
     let missing = count_missing(rows, folders);
     if rows.has(key) { missing } else { missing + 1 }
@@ -83,7 +85,7 @@ fn count_with(rows: &Rows, folders: &[ItemKey], key: &ItemKey) -> usize
 
 // How many of the keys are missing.
 fn count_missing(rows: &Rows, keys: &[ItemKey]) -> usize
-    ensures count { result ≡ length (filter (λ key. not (has_row rows.now key)) keys.now) }
+    ensures count { result ≡ length (filter (λ key. not (has_item (items_of rows.now) key)) keys.now) }
     ensures most { result ≤ length keys.now }
 {
     let mut count = 0;
@@ -97,7 +99,7 @@ fn count_missing(rows: &Rows, keys: &[ItemKey]) -> usize
 
 // Whether so many rows may come.
 fn has_room(limits: &Limits, rows: &Rows, added: usize) -> bool
-    ensures { result ≡ has_room limits.now rows.now added }
+    ensures { result ≡ ((added == 0) || nat_le (length rows.now + added) limits.now.items) }
 {
     let most = limits.items as usize;
     added == 0 || (added <= most && rows.as_slice().len() <= most - added)

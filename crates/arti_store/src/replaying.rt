@@ -1,9 +1,10 @@
 // Changes that are done again.
-ghost use Rattle.std.specs.Prelude.{◌≡◌, ◌++◌, ℕ, List, [], None, true, IfOk, IfSome, OnOk, IsTrue};
+ghost use Rattle.std.specs.Prelude.{◌≡◌, ◌++◌, ℕ, List, [], None, true, is_none, IfOk, IfSome, OnOk, IsTrue};
 ghost use Rattle.arti_journal.specs.Journal.{bodies_of};
 ghost use Rattle.arti_store.specs.Changes.{edit_references, references_of};
-ghost use Rattle.arti_store.specs.Edited.{rows_edited_by, accepts_change, accepts_edits, rows_edited, accepts_edit};
-ghost use Rattle.arti_store.specs.Replays.{Replays, ReplaysNot};
+ghost use Rattle.arti_model.specs.Apply.{edited, edited_by, edit_refusal, edits_refusal};
+ghost use Rattle.arti_store.specs.Items.{items_of};
+ghost use Rattle.arti_store.specs.Replays.{itself, is_accepted, Replays, ReplaysNot};
 
 use crate::edits::do_one;
 use crate::judging::accepts;
@@ -19,7 +20,7 @@ pub(crate) fn replay(
     limits: &Limits,
     bodies: &[Vec<u8>],
 ) -> Result<Option<(Rows, Vec<FileRef>)>, AllocError>
-    ensures done { IfOk result (λ r. IfSome r (λ x. Replays limits.now (bodies_of bodies.now) x.0 x.1.items)) }
+    ensures done { IfOk result (λ r. IfSome r (λ x. Replays limits.now (bodies_of bodies.now) (items_of x.0) x.1.items)) }
     ensures none { IfOk result (λ r. r ≡ None → ReplaysNot limits.now (bodies_of bodies.now)) }
 {
     bytes_are_of_one_change();
@@ -30,7 +31,7 @@ pub(crate) fn replay(
             Err(DecodeFault::NotAChange) => return Ok(None),
             Err(DecodeFault::Memory) => return Err(AllocError),
             Ok(change) => {
-                if !redo(alloc, limits, &mut rows, &mut files, change)? {
+                if !redo(alloc, limits, &mut rows, &mut files, &change)? {
                     return Ok(None);
                 }
             }
@@ -45,11 +46,11 @@ fn redo(
     limits: &Limits,
     rows: &mut Rows,
     files: &mut Vec<FileRef>,
-    change: Change,
+    change: &Change,
 ) -> Result<bool, AllocError>
-    ensures accepted { IfOk result (λ b. b ≡ accepts_change limits.now change rows.old) }
-    ensures rows { IfOk result (λ b. IsTrue b → rows.new ≡ rows_edited_by change.moment change.user change.edits rows.old) }
-    ensures files { IfOk result (λ b. IsTrue b → files.new.items ≡ files.old.items ++ references_of change.edits) }
+    ensures accepted { IfOk result (λ b. b ≡ is_accepted limits.now itself change.now (items_of rows.old)) }
+    ensures rows { IfOk result (λ b. IsTrue b → items_of rows.new ≡ edited_by itself change.now.moment change.now.user change.now.edits (items_of rows.old)) }
+    ensures files { IfOk result (λ b. IsTrue b → files.new.items ≡ files.old.items ++ references_of change.now.edits) }
 {
     redo_each(
         alloc,
@@ -72,8 +73,8 @@ fn redo_each(
     user: &Text,
     edits: &[Edit],
 ) -> Result<bool, AllocError>
-    ensures accepted { IfOk result (λ b. b ≡ accepts_edits limits.now moment user.now edits.now rows.old) }
-    ensures rows { IfOk result (λ b. IsTrue b → rows.new ≡ rows_edited_by moment user.now edits.now rows.old) }
+    ensures accepted { IfOk result (λ b. b ≡ is_none (edits_refusal limits.now itself moment user.now edits.now (items_of rows.old))) }
+    ensures rows { IfOk result (λ b. IsTrue b → items_of rows.new ≡ edited_by itself moment user.now edits.now (items_of rows.old)) }
     ensures files { IfOk result (λ b. IsTrue b → files.new.items ≡ files.old.items ++ references_of edits.now) }
 {
     for edit in edits {
@@ -94,8 +95,8 @@ fn redo_one(
     user: &Text,
     edit: &Edit,
 ) -> Result<bool, AllocError>
-    ensures accepted { IfOk result (λ b. b ≡ accepts_edit limits.now edit.now rows.old) }
-    ensures rows { IfOk result (λ b. IsTrue b → rows.new ≡ rows_edited moment user.now edit.now rows.old) }
+    ensures accepted { IfOk result (λ b. b ≡ is_none (edit_refusal limits.now edit.now (items_of rows.old))) }
+    ensures rows { IfOk result (λ b. IsTrue b → items_of rows.new ≡ edited itself moment user.now edit.now (items_of rows.old)) }
     ensures files { IfOk result (λ b. IsTrue b → files.new.items ≡ files.old.items ++ edit_references edit.now) }
 {
     match judge(alloc, limits, rows, files, edit) {
@@ -115,7 +116,7 @@ fn judge(
     files: &mut Vec<FileRef>,
     edit: &Edit,
 ) -> Result<bool, AllocError>
-    ensures accepted { IfOk result (λ b. b ≡ accepts_edit limits.now edit.now rows.now) }
+    ensures accepted { IfOk result (λ b. b ≡ is_none (edit_refusal limits.now edit.now (items_of rows.now))) }
     ensures files { OnOk result (files.new.items ≡ files.old.items ++ edit_references edit.now) }
 {
     note(files, edit)?;

@@ -5,8 +5,9 @@ ghost use Rattle.std.specs.Option.{option_copied};
 ghost use Rattle.std.specs.Vec.{vec_len, vec_capacity};
 ghost use Rattle.arti_rows.specs.declared.rows.ItemRow.{ItemRow};
 ghost use Rattle.arti_rows.specs.declared.rows.FileRef.{FileRef};
-ghost use Rattle.arti_store.specs.Items.{InOrder, HasFileIn, find_row, put_row, put_rows};
-ghost use Rattle.arti_store.specs.Edited.{has_row, has_file_row, no_row, counted_row, rows_with_download};
+ghost use Rattle.arti_model.specs.Store.{has_item, has_file, put_items};
+ghost use Rattle.arti_model.specs.Apply.{with_download};
+ghost use Rattle.arti_store.specs.Items.{InOrder, HasFileIn, items_of, find_row, put_row, put_rows, no_row, counted_row, rows_with_download};
 ghost use Rattle.arti_store.specs.Places.{IsPlace, IsGap};
 
 use arti_rows::{FileRef, ItemKey, ItemRow, Moment, Stat, Text};
@@ -58,21 +59,21 @@ impl Rows {
 
     /// Whether something stands at the key.
     pub(crate) fn has(&self, key: &ItemKey) -> bool
-        ensures { result ≡ has_row self.now key.now }
+        ensures { result ≡ has_item (items_of self.now) key.now }
     {
         self.find(key).is_some()
     }
 
     /// Whether a file stands at the key.
     pub(crate) fn has_file(&self, key: &ItemKey) -> bool
-        ensures { result ≡ has_file_row self.now key.now }
+        ensures { result ≡ has_file (items_of self.now) key.now }
     {
         has_file(&self.rows, key)
     }
 
     /// Puts rows at their places, one after the other. An `Err` changes nothing.
     pub(crate) fn put_all(&mut self, news: Vec<ItemRow>) -> Result<(), AllocError>
-        ensures put { OnOk result (self.new ≡ put_rows news.items self.old) }
+        ensures put { OnOk result (items_of self.new ≡ put_items (items_of news.items) (items_of self.old)) }
         ensures unchanged { OnErr result (self.new ≡ self.old) }
     {
         self.rows.reserve(news.len())?;
@@ -87,7 +88,7 @@ impl Rows {
         user: &Text,
         key: &ItemKey,
     ) -> Result<(), AllocError>
-        ensures counted { OnOk result (self.new ≡ rows_with_download self.old moment user.now key.now) }
+        ensures counted { OnOk result (items_of self.new ≡ with_download (items_of self.old) moment user.now key.now) }
         ensures unchanged { OnErr result (self.new ≡ self.old) }
     {
         let user = user.clone()?;
@@ -119,7 +120,7 @@ fn find<'a>(rows: &'a [ItemRow], key: &ItemKey) -> Option<&'a ItemRow>
 // Whether a file stands at the key.
 fn has_file(rows: &[ItemRow], key: &ItemKey) -> bool
     requires order { InOrder rows.now }
-    ensures { result ≡ has_file_row rows.now key.now }
+    ensures { result ≡ has_file (items_of rows.now) key.now }
 {
     match find(rows, key) {
         None => false,

@@ -1,6 +1,7 @@
 // The store.
-ghost use Rattle.std.specs.Prelude.{◌≡◌, ◌≢◌, ◌↔◌, ◌⊎◌, ◌+◌, ◌^◌, ◌<◌, ◌≤◌, ◌++◌, ℕ, List, [], length, take, All, Contains, Option, None, Some, Err, IsTrue, IsSome, IfOk, IfErr, IfSome, OnOk, OnErr, IsErrOf, IsSomeAnd, Ok, false, option_map, is_none};
+ghost use Rattle.std.specs.Prelude.{◌≡◌, ◌≢◌, ◌↔◌, ◌⊎◌, ◌+◌, ◌^◌, ◌<◌, ◌≤◌, ◌++◌, ℕ, List, [], length, take, All, Contains, Option, None, Some, Err, IsTrue, IsSome, IfOk, IfErr, IfSome, OnOk, OnErr, IsErrOf, IsSomeAnd, Ok, false, option_map};
 ghost use Rattle.std.specs.Option.{option_copied};
+ghost use Rattle.arti_rows.specs.Sizes.{contents_file, most_content};
 ghost use Rattle.arti_rows.specs.declared.rows.FileRef.{FileRef};
 ghost use Rattle.arti_rows.specs.declared.rows.ItemRow.{ItemRow};
 ghost use Rattle.arti_rows.specs.declared.refusal.Which.{Which};
@@ -9,13 +10,12 @@ ghost use Rattle.arti_blobs.specs.Digests.{digests_of};
 ghost use Rattle.arti_blobs.specs.Contents.{content, end_of, HasPair, Stages, staged_length, HoldsStaged};
 ghost use Rattle.arti_codec.specs.ChangeBytes.{HasBytes, ChangeBytes};
 ghost use Rattle.arti_model.specs.Store.{find_item};
-ghost use Rattle.arti_model.specs.Apply.{Holding, apply, refusal, edit_refusal};
+ghost use Rattle.arti_model.specs.Apply.{Holding, apply, refusal};
 ghost use Rattle.arti_store.specs.Items.{InOrder, HasFileIn, file_in, item_in, items_in, find_row};
 ghost use Rattle.arti_store.specs.Changes.{references_of};
 ghost use Rattle.arti_store.specs.Store.{holding_of, Stands, HoldsStore, Standing, Reopening, kept_and, MayKeep, IsStaged, PassesBlobs, PassesJournal, next_of, Committing};
 
 use crate::commit::{added, frame_change, take_up};
-use crate::judging::accepts;
 use crate::opening::open_contents;
 use crate::replaying::replay;
 use crate::rows::Rows;
@@ -24,11 +24,11 @@ use arti_blobs::{Blobs, StageFault, Staged};
 use arti_codec::bytes_are_of_one_change;
 use arti_ground::Ground;
 use arti_journal::{AppendFault, Journal, JournalFault, one_list_of_bodies};
-use arti_rows::{Change, Edit, FileRef, ItemKey, ItemRow, Limits, Which};
+use arti_rows::{Change, FileRef, ItemKey, ItemRow, JOURNAL_FILE, Limits, Which};
 use std::alloc::{AllocError, Global};
 use std::marker::Model;
 
-/// A store in the files 1 and 3 of the ground that is handed in beside it. Contracts see its rows, its contents, how much is
+/// A store in the journal's and the contents' file of the ground that is handed in beside it. Contracts see its rows, its contents, how much is
 /// used of its journal, its limits, how many commits answered Ok, and the number of the commit that closed it.
 #[derive(Drop)]
 pub struct Store {
@@ -42,6 +42,7 @@ pub struct Store {
 
 impl Model for Store {
     ghost use Rattle.std.specs.Prelude.{◌≡◌, ◌^◌, ◌≤◌, All};
+    ghost use Rattle.arti_rows.specs.Sizes.{journal_file, most_content};
     ghost use Rattle.arti_blobs.specs.Contents.{end_of};
     ghost use Rattle.arti_store.specs.Items.{HasFileIn};
     ghost use Rattle.arti_store.specs.Store.{View};
@@ -51,10 +52,10 @@ impl Model for Store {
     ghost view = { λ s. record { rows = s.rows; contents = s.blobs; used = s.journal.used; limits = s.limits; commits = s.commits; closed = s.closed } };
 
     ghost invariant = { λ s. record {
-      file_is : s.journal.file ≡ 1;
+      file_is : s.journal.file ≡ journal_file;
       files : All (HasFileIn s.blobs.kept) s.rows;
       short : end_of s.blobs.kept ≤ 2 ^ 62;
-      lens : All (λ file. file.len ≤ 67108864) s.blobs.kept;
+      lens : All (λ file. file.len ≤ most_content) s.blobs.kept;
     } };
 }
 
@@ -66,10 +67,10 @@ impl Store {
         outside: &mut G,
         limits: &Limits,
     ) -> Result<Store, OpenFault>
-        ensures stands { G.tells → IfOk result (λ s. Stands limits.now (G.state outside.old).files (holding_of ((G.state outside.old).files 3) s) s.used) }
+        ensures stands { G.tells → IfOk result (λ s. Stands limits.now (G.state outside.old).files (holding_of ((G.state outside.old).files contents_file) s) s.used) }
         ensures none { G.tells → IsErrOf result OpenFault.NotAStore → (h : Holding) (used : ℕ) → Stands limits.now (G.state outside.old).files h used → ⊥ }
         ensures holds { G.tells → IfOk result (λ s. HoldsStore (G.state outside.new) s) }
-        ensures contents { G.tells → OnOk result ((G.state outside.new).files 3 ≡ (G.state outside.old).files 3) }
+        ensures contents { G.tells → OnOk result ((G.state outside.new).files contents_file ≡ (G.state outside.old).files contents_file) }
         ensures still_open { IfOk result (λ s. s.closed ≡ None) }
         ensures limits { IfOk result (λ s. s.limits ≡ limits.now) }
         ensures commits { IfOk result (λ s. s.commits ≡ 0) }
@@ -84,7 +85,7 @@ impl Store {
     {
         one_list_of_bodies();
         bytes_are_of_one_change();
-        let (journal, bodies) = match Journal::open(alloc, outside, 1) {
+        let (journal, bodies) = match Journal::open(alloc, outside, JOURNAL_FILE) {
             Err(JournalFault::NotAJournal) => return Err(OpenFault::NotAStore),
             Err(JournalFault::Device) => return Err(OpenFault::Device),
             Err(JournalFault::Memory) => return Err(OpenFault::Memory),
@@ -121,11 +122,11 @@ impl Store {
     ) -> Result<(), CommitFault>
         requires holds { G.tells → HoldsStore (G.state outside.old) self.old }
         requires accepted { G.tells → self.old.closed ≡ None
-            → refusal self.old.limits (file_in ((G.state outside.old).files 3)) change (holding_of ((G.state outside.old).files 3) self.old) ≡ None }
+            → refusal self.old.limits (file_in ((G.state outside.old).files contents_file)) change (holding_of ((G.state outside.old).files contents_file) self.old) ≡ None }
         requires bytes { self.old.closed ≡ None → HasBytes change }
         requires references { self.old.closed ≡ None → All (Contains (kept_and self.old.contents.kept content)) (references_of change.edits) }
         requires keep { self.old.closed ≡ None → MayKeep self.old.contents content }
-        requires staged { G.tells → self.old.closed ≡ None → IsStaged ((G.state outside.old).files 3) self.old.contents.kept content }
+        requires staged { G.tells → self.old.closed ≡ None → IsStaged ((G.state outside.old).files contents_file) self.old.contents.kept content }
         ensures closed { (n : ℕ) → IsErrOf result (CommitFault.Closed n) ↔ (self.old.closed ≡ Some n) }
         ensures full_blobs { IsErrOf result (CommitFault.Full Which.Blobs) ↔ ((self.old.closed ≡ None) × PassesBlobs self.old (references_of change.edits) content) }
         ensures full_journal { IsErrOf result (CommitFault.Full Which.Journal) → (body : List ℕ) → ChangeBytes body change → PassesJournal self.old.limits self.old.used body }
@@ -141,15 +142,15 @@ impl Store {
         ensures limits { self.new.limits ≡ self.old.limits }
         ensures longer { OnOk result ((body : List ℕ) → ChangeBytes body change → self.new.used ≡ self.old.used + 5 + length body) }
         ensures staging { self.new.contents.staging ≡ self.old.contents.staging }
-        ensures holding { G.tells → OnOk result (holding_of ((G.state outside.new).files 3) self.new
-            ≡ apply (file_in ((G.state outside.old).files 3)) change (holding_of ((G.state outside.old).files 3) self.old)) }
-        ensures contents { G.tells → OnOk result ((G.state outside.new).files 3 ≡ (G.state outside.old).files 3) }
+        ensures holding { G.tells → OnOk result (holding_of ((G.state outside.new).files contents_file) self.new
+            ≡ apply (file_in ((G.state outside.old).files contents_file)) change (holding_of ((G.state outside.old).files contents_file) self.old)) }
+        ensures contents { G.tells → OnOk result ((G.state outside.new).files contents_file ≡ (G.state outside.old).files contents_file) }
         ensures holds { G.tells → HoldsStore (G.state outside.new) self.new }
         ensures durable { G.tells → OnOk result (IsDurable (G.state outside.new)) }
         ensures moments { G.tells → self.old.closed ≡ None → (body : List ℕ) → ChangeBytes body change
             → Passes (G.state outside.old) (G.state outside.new) (Committing (G.state outside.old) self.old.limits
-            (holding_of ((G.state outside.old).files 3) self.old)
-            (apply (file_in ((G.state outside.old).files 3)) change (holding_of ((G.state outside.old).files 3) self.old))
+            (holding_of ((G.state outside.old).files contents_file) self.old)
+            (apply (file_in ((G.state outside.old).files contents_file)) change (holding_of ((G.state outside.old).files contents_file) self.old))
             self.old.used (self.old.used + 5 + length body)) }
         ensures told { G.tells → (G.state outside.new).told ≡ (G.state outside.old).told }
         ensures device { IsErrOf result CommitFault.Device → Rose (G.disk_faults outside.old) (G.disk_faults outside.new) }
@@ -181,7 +182,14 @@ impl Store {
             Ok(()) => {}
         }
         let limit = self.limits.blobs;
-        let taken = take_up(alloc, &mut self.blobs, &mut self.rows, limit, change, added);
+        let taken = take_up(
+            alloc,
+            &mut self.blobs,
+            &mut self.rows,
+            limit,
+            &change,
+            added,
+        );
         let number = self.commits.saturating_add(1);
         if taken.is_err() {
             self.closed = Some(number);
@@ -202,7 +210,7 @@ impl Store {
         requires kept { self.old.closed ≡ None → Contains self.old.contents.kept file.now }
         requires holds { G.tells → HoldsStore (G.state outside.old) self.old }
         ensures within { IfOk result (λ n. n ≤ length buf.old) }
-        ensures bytes { G.tells → IfOk result (Reads (content ((G.state outside.old).files 3) file.now) at buf.old buf.new) }
+        ensures bytes { G.tells → IfOk result (Reads (content ((G.state outside.old).files contents_file) file.now) at buf.old buf.new) }
         ensures closed { (n : ℕ) → IsErrOf result (ContentFault.Closed n) ↔ (self.old.closed ≡ Some n) }
         ensures unchanged { self.new ≡ self.old }
         ensures holds { G.tells → HoldsStore (G.state outside.new) self.new }
@@ -256,7 +264,7 @@ impl Store {
         ensures given_up { OnErr result (self.new.contents.staging ≡ None) }
         ensures too_large { IsErrOf result StageFault.TooLarge ↔ (max < staged_length self.old.contents.staging + length piece.now) }
         ensures not_written { IsErrOf result StageFault.TooLarge → outside.new ≡ outside.old }
-        ensures holding { G.tells → holding_of ((G.state outside.new).files 3) self.new ≡ holding_of ((G.state outside.old).files 3) self.old }
+        ensures holding { G.tells → holding_of ((G.state outside.new).files contents_file) self.new ≡ holding_of ((G.state outside.old).files contents_file) self.old }
         ensures holds { G.tells → HoldsStore (G.state outside.new) self.new }
         ensures moments { G.tells → Passes (G.state outside.old) (G.state outside.new) (Standing (G.state outside.old) self.old) }
         ensures told { G.tells → (G.state outside.new).told ≡ (G.state outside.old).told }
@@ -278,13 +286,13 @@ impl Store {
         ensures length { IfOk result (λ s. s.file.len ≡ staged_length self.old.contents.staging) }
         ensures digests { (bytes : List ℕ) → Stages self.old.contents bytes → IfOk result (λ s. s.file.digests ≡ digests_of bytes) }
         ensures content { G.tells → (bytes : List ℕ) → HoldsStaged (G.state outside.old) self.old.contents bytes
-            → IfOk result (λ s. content ((G.state outside.new).files 3) s.file ≡ bytes) }
+            → IfOk result (λ s. content ((G.state outside.new).files contents_file) s.file ≡ bytes) }
         ensures fresh { G.tells → (bytes : List ℕ) → HoldsStaged (G.state outside.old) self.old.contents bytes
-            → IfOk result (λ s. s.fresh ≡ false ↔ HasPair ((G.state outside.old).files 3) self.old.contents.kept bytes (digests_of bytes)) }
+            → IfOk result (λ s. s.fresh ≡ false ↔ HasPair ((G.state outside.old).files contents_file) self.old.contents.kept bytes (digests_of bytes)) }
         ensures kept { IfOk result (λ s. Contains (kept_and self.old.contents.kept (Some s)) s.file) }
         ensures keep { IfOk result (λ s. MayKeep self.new.contents (Some s)) }
         ensures staged { G.tells → (bytes : List ℕ) → HoldsStaged (G.state outside.old) self.old.contents bytes
-            → IfOk result (λ s. IsStaged ((G.state outside.new).files 3) self.new.contents.kept (Some s)) }
+            → IfOk result (λ s. IsStaged ((G.state outside.new).files contents_file) self.new.contents.kept (Some s)) }
         ensures holds { G.tells → HoldsStore (G.state outside.new) self.new }
         ensures reads { G.tells → OnlyReads (G.state outside.old) (G.state outside.new) }
         ensures device { OnErr result (result ≡ Err StageFault.Device) }
@@ -310,13 +318,6 @@ impl Store {
         ensures files { All (HasFileIn self.now.contents.kept) self.now.rows }
     {
         self.rows.as_slice()
-    }
-
-    /// Whether a change of this edit alone is accepted.
-    pub fn accepts(&self, alloc: Global, edit: &Edit) -> Result<bool, AllocError>
-        ensures { IfOk result (λ b. (bytes : List ℕ) → b ≡ is_none (edit_refusal self.now.limits edit.now (items_in bytes self.now.rows))) }
-    {
-        accepts(alloc, &self.limits, edit, &self.rows)
     }
 
     /// The limits that it was opened with.
@@ -357,7 +358,7 @@ impl Store {
 
     /// Each kept content has at most as many bytes as a content may have.
     pub fn kept_are_short(&self)
-        ensures { All (λ file. file.len ≤ 67108864) self.now.contents.kept }
+        ensures { All (λ file. file.len ≤ most_content) self.now.contents.kept }
     {
         let _ = &self.blobs;
     }

@@ -4,7 +4,8 @@ use Rattle.arti_model.specs.Requests.{AtEnd, AtCut, AtBad, Head}
 use Rattle.arti_wire.specs.Framing.{AnswersStart, body_left}
 use Rattle.arti_wire.specs.declared.wire.NextHead.{NextHead}
 use Rattle.std.proofs.Common.{subst}
-use Rattle.arti_service.proofs.Talks.{too_many, ends_untold}
+use Rattle.arti_service.proofs.Talks.{too_many, ends_untold, ends_bad}
+use Rattle.arti_service.proofs.Acting.{leaves_stock}
 use Rattle.arti_service.specs.Stocks.{stock_of}
 use Rattle.arti_service.proofs.Stops.{in_bad}
 use Rattle.arti_service.proofs.Crashes.{bad_moments}
@@ -70,3 +71,17 @@ pub returns-else-most-eq0-3-clause-moments : goal.returns-else-most-eq0-3-clause
 returns-else-most-eq0-3-clause-moments g c = λ gt st ct.
     let input : List ℕ = c.args.wire.now.ahead ++ g.S.Source.left c.args.source.now in
     c.turn_on.ensures.moments gt st ct input (subst (λ (x : NextHead). AnswersStart c.args.limits.now.content input x c.next_head.new.self.phase (c.next_head.new.self.ahead ++ g.S.Source.left c.next_head.new.source)) c.in-Ok-Head.field-0-is (c.in-Ok-Head.ensures.starts st))
+
+pub returns-else-most-eq0-2-clause-ends : goal.returns-else-most-eq0-2-clause-ends
+returns-else-most-eq0-2-clause-ends g c = λ gt st ct.
+    let input : List ℕ = c.args.wire.now.ahead ++ g.S.Source.left c.args.source.now in
+    let some : 0 < c.args.most = omega arith in
+    ends_bad c.args.limits.now c.args.most (g.C.Clock.moments c.args.clock.now) (stock_of (g.G.Ground.state c.args.ground.now) c.args.store.now) input c.in-Ok-Bad.why c.end_bad.result
+    ((g.G.Ground.state c.args.ground.now).told c.args.line) ((g.G.Ground.state c.end_bad.new.ground).told c.args.line) (stock_of (g.G.Ground.state c.end_bad.new.ground) c.args.store.now) some
+    (subst (λ (x : NextHead). AnswersStart c.args.limits.now.content input x c.next_head.new.self.phase (c.next_head.new.self.ahead ++ g.S.Source.left c.next_head.new.source)) c.in-Ok-Bad.field-0-is (c.in-Ok-Bad.ensures.starts st))
+    c.end_bad.ensures.bad (c.end_bad.ensures.told gt) (leaves_stock (g.G.Ground.state c.args.ground.now) (g.G.Ground.state c.end_bad.new.ground) c.args.store.now (c.end_bad.ensures.disk gt))
+
+pub returns-else-most-eq0-3-clause-turns : goal.returns-else-most-eq0-3-clause-turns
+returns-else-most-eq0-3-clause-turns g c = λ gt st ct.
+    let input : List ℕ = c.args.wire.now.ahead ++ g.S.Source.left c.args.source.now in
+    c.turn_on.ensures.turns gt st ct input (subst (λ (x : NextHead). AnswersStart c.args.limits.now.content input x c.next_head.new.self.phase (c.next_head.new.self.ahead ++ g.S.Source.left c.next_head.new.source)) c.in-Ok-Head.field-0-is (c.in-Ok-Head.ensures.starts st))

@@ -4,7 +4,7 @@ use Rattle.arti_rows.specs.Key.{Key}
 use Rattle.arti_rows.specs.declared.rows.FileRef.{FileRef}
 use Rattle.arti_rows.specs.declared.rows.Given.{Given}
 use Rattle.arti_rows.specs.declared.rows.ItemRow.{ItemRow}
-use Rattle.arti_model.specs.Store.{Item, find_item}
+use Rattle.arti_model.specs.Store.{Item, File, find_item}
 use Rattle.arti_model.specs.Apply.{deployed}
 use Rattle.arti_model.specs.Bodies.{deploy_body, deployed_body, json_reply}
 use Rattle.arti_model.specs.Deploys.{given_of}
@@ -14,14 +14,14 @@ use Rattle.arti_service.proofs.deploys.deploy_reply.Goals as goal
 use Rattle.arti_service.proofs.deploys.deploy_reply.Goals.{in-None+in_ok-body-in-None, in-Some+in_ok-body-in-Some}
 
 -- what is told of the item, by the one that was there
-abbrev body_with : List ℕ → ℤ → Key → Given → FileRef → Option Item → List ℕ
+abbrev body_with : List ℕ → ℤ → Key → Given → FileRef → Option (Item File) → List ℕ
 body_with bytes moment key given file old = deploy_body (deployed moment anonymous key given (file_in bytes file) [] old) (file_in bytes file)
 
-told_new : (bytes : List ℕ) (moment : ℤ) (key : Key) (given : Given) (file : FileRef) (old : Option Item) → None ≡ old → length (file_in bytes file).content ≡ file.len
+told_new : (bytes : List ℕ) (moment : ℤ) (key : Key) (given : Given) (file : FileRef) (old : Option (Item File)) → None ≡ old → length (file_in bytes file).content ≡ file.len
     → deployed_body key moment anonymous file.len file.digests ≡ body_with bytes moment key given file old
 told_new bytes moment key given file old is whole = ap (λ n. deployed_body key moment anonymous n file.digests) (sym whole) ∙ ap (body_with bytes moment key given file) is
 
-told_again : (bytes : List ℕ) (moment : ℤ) (key : Key) (given : Given) (file : FileRef) (row : ItemRow) (user : List ℕ) (old : Option Item) → Some (item_in bytes row) ≡ old → user ≡ row.created_by → length (file_in bytes file).content ≡ file.len
+told_again : (bytes : List ℕ) (moment : ℤ) (key : Key) (given : Given) (file : FileRef) (row : ItemRow) (user : List ℕ) (old : Option (Item File)) → Some (item_in bytes row) ≡ old → user ≡ row.created_by → length (file_in bytes file).content ≡ file.len
     → deployed_body key row.created user file.len file.digests ≡ body_with bytes moment key given file old
 told_again bytes moment key given file row user old is same whole =
     ap (λ n. deployed_body key row.created user n file.digests) (sym whole)

@@ -20,10 +20,10 @@ module _ (key : Key) (fields : List FieldText) (limits : Limits) (s : Stock) (mo
 
   abbrev by_content : Bool → Answer
   by_content b =
-      cond b (deploy_found limits s moment key (wanted_digests fields) (file_with (wanted_digests fields) s.holding.repository.items))
+      cond b (deploy_found limits s moment key (wanted_digests fields) (file_with (λ (f : File). f.digests) (wanted_digests fields) s.holding.repository.items))
       (deploy_sent limits s moment key (wanted_digests fields) body (mismatch (wanted_digests fields) (digests_of body)))
 
-  module _ (good : bad_header fields ≡ None) (full : (is_checksum_deploy fields && lacks_digest (wanted_digests fields)) ≡ false) (items : List Item) (has : s.holding.repository.items ≡ items) where
+  module _ (good : bad_header fields ≡ None) (full : (is_checksum_deploy fields && lacks_digest (wanted_digests fields)) ≡ false) (items : List (Item File)) (has : s.holding.repository.items ≡ items) where
     by_bar : (b : Bool) → is_barred items key ≡ b → answer ≡ cond b (not_yet s) (by_content (is_checksum_deploy fields))
     by_bar b bar =
         ap (deploy_by limits s moment key fields body) good
@@ -33,10 +33,10 @@ module _ (key : Key) (fields : List FieldText) (limits : Limits) (s : Stock) (mo
     sent : is_barred items key ≡ false → is_checksum_deploy fields ≡ false → answer ≡ deploy_sent limits s moment key (wanted_digests fields) body (mismatch (wanted_digests fields) (digests_of body))
     sent bar plain = by_bar false bar ∙ ap by_content plain
 
-    by_file : (found : Option File) → is_barred items key ≡ false → is_checksum_deploy fields ≡ true → found ≡ file_with (wanted_digests fields) items → answer ≡ deploy_found limits s moment key (wanted_digests fields) found
+    by_file : (found : Option File) → is_barred items key ≡ false → is_checksum_deploy fields ≡ true → found ≡ file_with (λ (f : File). f.digests) (wanted_digests fields) items → answer ≡ deploy_found limits s moment key (wanted_digests fields) found
     by_file found bar checksum is =
         by_bar false bar ∙ ap by_content checksum
-        ∙ ap (λ l. deploy_found limits s moment key (wanted_digests fields) (file_with (wanted_digests fields) l)) has
+        ∙ ap (λ l. deploy_found limits s moment key (wanted_digests fields) (file_with (λ (f : File). f.digests) (wanted_digests fields) l)) has
         ∙ ap (deploy_found limits s moment key (wanted_digests fields)) (sym is)
 
 -- a deploy whose content is to be found names a digest
@@ -72,7 +72,7 @@ returns-in-Some-file_with c = (
       let good : bad_header fields ≡ None = search rules in
       let full = full_is fields c.wanted_digests-wanted.result c.is_checksum_deploy-checksum.result c.names_none.result c.wanted_digests-wanted.ensures c.is_checksum_deploy-checksum.ensures c.names_none.ensures c.if-names_none.false in
       by_file c.args.key.now fields limits s moment body good full (items_in bytes c.args.store.now.rows) has (Some (file_in bytes c.in-Some-file_with.file)) (sym (c.is_barred.ensures bytes) ∙ c.if-is_barred.false) (sym c.if-not-checksum.ensures)
-      (c.in-Some-file_with.ensures.file bytes ∙ ap (λ w. file_with w (items_in bytes c.args.store.now.rows)) c.wanted_digests-wanted.ensures),
+      (c.in-Some-file_with.ensures.file bytes ∙ ap (λ w. file_with (λ (f : File). f.digests) w (items_in bytes c.args.store.now.rows)) c.wanted_digests-wanted.ensures),
 )
 
 pub returns : goal.returns
@@ -81,5 +81,5 @@ returns c = λ limits s bytes moment body has.
     let good : bad_header fields ≡ None = search rules in
     let full = full_is fields c.wanted_digests-wanted.result c.is_checksum_deploy-checksum.result c.names_none.result c.wanted_digests-wanted.ensures c.is_checksum_deploy-checksum.ensures c.names_none.ensures c.if-names_none.false in
     by_file c.args.key.now fields limits s moment body good full (items_in bytes c.args.store.now.rows) has None (sym (c.is_barred.ensures bytes) ∙ c.if-is_barred.false) (sym c.if-not-checksum.ensures)
-    (c.in-None.ensures.file bytes ∙ ap (λ w. file_with w (items_in bytes c.args.store.now.rows)) c.wanted_digests-wanted.ensures)
+    (c.in-None.ensures.file bytes ∙ ap (λ w. file_with (λ (f : File). f.digests) w (items_in bytes c.args.store.now.rows)) c.wanted_digests-wanted.ensures)
     ∙ ap (unchanged s) (sym c.in_ok-reply-in-None.ensures)

@@ -2,9 +2,10 @@ use Rattle.std.proofs.Common.{◌≡◌, ℕ, ◌+◌, Bool, List, cond, length,
 use Rattle.std.specs.Prelude.{filter, not}
 use Rattle.std.proofs.lemmas.List.{length-map}
 use Rattle.arti_rows.specs.Key.{Key, folders_above}
-use Rattle.arti_model.specs.Store.{has_item}
+use Rattle.arti_model.specs.Store.{item_of_row, has_item}
 use Rattle.arti_model.specs.Apply.{added_with}
-use Rattle.arti_store.specs.Items.{item_in, items_in}
+use Rattle.arti_model.specs.Mapped.{item_mapped}
+use Rattle.arti_store.specs.Items.{file_in, items_of, items_in}
 use Rattle.arti_service.proofs.Looks.{room, no_more}
 use Rattle.arti_service.proofs.looking.passes_limit.Goals as goal
 use Rattle.arti_service.proofs.looking.passes_limit.Goals.{then-has_item, else-has_item}
@@ -24,7 +25,7 @@ returns-then-added-ne0 c = λ bytes.
     ] in
     let added : c.if-has_item.added ≡ added_with items c.args.key.now =
     added_is (λ ks. length (filter (λ key. not (has_item items key)) ks)) c.args.folders.now c.args.key.now c.has_item.result (has_item items c.args.key.now) c.missing-missing.result c.if-has_item.added c.requires.folders (c.missing-missing.ensures.count bytes) (c.has_item.ensures bytes) more in
-    let have : length c.items.result.now ≡ length items = ap length c.items.ensures.rows ∙ sym (length-map c.args.store.now.rows (item_in bytes)) in
+    let have : length c.items.result.now ≡ length items = ap length c.items.ensures.rows ∙ sym (length-map (items_of c.args.store.now.rows) (item_mapped (file_in bytes)) ∙ length-map c.args.store.now.rows item_of_row) in
     room c.args.limits.now.items (length c.items.result.now) (length items) c.if-has_item.added (added_with items c.args.key.now) have added (omega (arith, c.if-added-ne0.true))
 
 pub returns-else-added-ne0 : goal.returns-else-added-ne0

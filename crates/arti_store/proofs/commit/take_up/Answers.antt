@@ -22,4 +22,4 @@ returns-clause-files c =
     let kept : new ≡ kept_and old c.args.added = c.in_ok-keep_added.ensures.kept in
     c.do_all.ensures.files new
     (subst (λ (l : List FileRef). All (HasFileIn l) c.args.rows.now) (sym kept) (has_more old (kept_and old c.args.added) (λ f is. and_contains old c.args.added f is) c.args.rows.now c.requires.files))
-    (subst (λ (l : List FileRef). All (Contains l) (references_of c.args.change.edits)) (sym kept) c.requires.references)
+    (subst (λ (l : List FileRef). All (Contains l) (references_of c.args.change.now.edits)) (sym kept) c.requires.references)

@@ -1,10 +1,11 @@
 use Rattle.std.proofs.Common.{◌≡◌, ◌++◌}
 use Rattle.std.specs.Prelude.{map, filter, not}
 use Rattle.std.specs.Vec.Iter.{into_iter_items}
-use Rattle.arti_store.specs.Edited.{has_row, folder_row}
+use Rattle.arti_model.specs.Store.{has_item}
+use Rattle.arti_store.specs.Items.{items_of, folder_row}
 use Rattle.arti_store.proofs.edits.made.Given as goal
 
 abbrev pub invariant-loop-folder : goal.invariant-loop-folder
 invariant-loop-folder l =
     (goal.iterator-loop-folder).can_next l.folder-iterator × (goal.iterator-loop-folder).is_finite l.folder-iterator
-    × (l.news.items ++ map (folder_row l.moment l.user) (filter (λ folder. not (has_row l.rows folder)) (into_iter_items l.folder-iterator)) ≡ map (folder_row l.moment l.user) (filter (λ folder. not (has_row l.rows folder)) l.fn.folders.items))
+    × (l.news.items ++ map (folder_row l.moment l.user) (filter (λ folder. not (has_item (items_of l.rows) folder)) (into_iter_items l.folder-iterator)) ≡ map (folder_row l.moment l.user) (filter (λ folder. not (has_item (items_of l.rows) folder)) l.fn.folders.items))

@@ -1,8 +1,7 @@
 use Rattle.std.proofs.Common.{◌≡◌, Bool, true, false, cond, refl, sym, subst, ◌∙◌, rules}
 use Rattle.arti_rows.specs.declared.rows.ItemRow.{ItemRow}
 use Rattle.arti_model.specs.Store.{same_key}
-use Rattle.arti_store.specs.Items.{InOrder}
-use Rattle.arti_store.specs.Edited.{no_row, counted_row, rows_with_download}
+use Rattle.arti_store.specs.Items.{InOrder, no_row, counted_row, rows_with_download}
 use Rattle.arti_store.specs.Places.{IsPlace, IsGap}
 use Rattle.arti_store.proofs.Places.{change_at_place, change_at_gap, change_in_order}
 use Rattle.arti_store.proofs.rows.count.Goals as goal

@@ -8,9 +8,10 @@ use Rattle.arti_blobs.specs.declared.staging.Staged.{Staged}
 use Rattle.arti_blobs.specs.Contents.{end_of}
 use Rattle.arti_codec.specs.ChangeBytes.{ChangeBytes}
 use Rattle.arti_model.specs.Apply.{apply}
-use Rattle.arti_store.specs.Items.{file_in}
+use Rattle.arti_store.specs.Items.{file_in, items_of}
 use Rattle.arti_store.specs.Changes.{references_of}
-use Rattle.arti_store.specs.Edited.{rows_edited_by}
+use Rattle.arti_model.specs.Apply.{edited_by}
+use Rattle.arti_store.specs.Replays.{itself}
 use Rattle.arti_store.specs.Store.{View, holding_of, HoldsOpen, kept_and, Committing}
 use Rattle.arti_store.proofs.Commits.{IsKept, may_none, none_by, names_added, room_added, room_for, kept_by, moments_of, holding_then, holds_then, and_contains}
 use Rattle.arti_store.proofs.Shortness.{IsShort, change_short, taken_short}
@@ -132,9 +133,9 @@ returns-clause-holding g c = λ tells.
     subst (λ (n : ℕ). Appended start end n v.used held.bodies body) c.self.invariant.file_is
     (subst (λ (n : ℕ). Appended start end c.self.inside.journal.file n held.bodies body) used (c.in-Ok-append.ensures.ok tells held.bodies journal)) in
     let next : View = record { rows = c.take_up-taken.new.rows; contents = c.take_up-taken.new.blobs; used = c.append.new.self.used; limits = c.self.inside.limits; commits = c.saturating_add-number.result; closed = c.self.inside.closed } in
-    let edited : c.take_up-taken.new.rows ≡ rows_edited_by c.args.change.moment c.args.change.user c.args.change.edits c.self.inside.rows = search rules in
-    let rows : next.rows ≡ rows_edited_by c.args.change.moment c.args.change.user c.args.change.edits v.rows =
-    edited ∙ ap (λ (w : View). rows_edited_by c.args.change.moment c.args.change.user c.args.change.edits w.rows) c.self.view_is in
+    let edited : items_of c.take_up-taken.new.rows ≡ edited_by itself c.args.change.moment c.args.change.user c.args.change.edits (items_of c.self.inside.rows) = search rules in
+    let rows : items_of next.rows ≡ edited_by itself c.args.change.moment c.args.change.user c.args.change.edits (items_of v.rows) =
+    edited ∙ ap (λ (w : View). edited_by itself c.args.change.moment c.args.change.user c.args.change.edits (items_of w.rows)) c.self.view_is in
     let kept_then : c.take_up-taken.new.blobs.kept ≡ kept_and c.self.inside.blobs.kept added = search rules in
     let kept : next.contents.kept ≡ kept_and v.contents.kept added = kept_then ∙ ap (λ (l : List FileRef). kept_and l added) was in
     let staging : next.contents.staging ≡ None =
@@ -170,9 +171,9 @@ returns-clause-holds g c = λ tells closed.
     subst (λ (n : ℕ). Appended start end n v.used held.bodies body) c.self.invariant.file_is
     (subst (λ (n : ℕ). Appended start end c.self.inside.journal.file n held.bodies body) used (c.in-Ok-append.ensures.ok tells held.bodies journal)) in
     let next : View = record { rows = c.take_up-taken.new.rows; contents = c.take_up-taken.new.blobs; used = c.append.new.self.used; limits = c.self.inside.limits; commits = c.saturating_add-number.result; closed = c.self.inside.closed } in
-    let edited : c.take_up-taken.new.rows ≡ rows_edited_by c.args.change.moment c.args.change.user c.args.change.edits c.self.inside.rows = search rules in
-    let rows : next.rows ≡ rows_edited_by c.args.change.moment c.args.change.user c.args.change.edits v.rows =
-    edited ∙ ap (λ (w : View). rows_edited_by c.args.change.moment c.args.change.user c.args.change.edits w.rows) c.self.view_is in
+    let edited : items_of c.take_up-taken.new.rows ≡ edited_by itself c.args.change.moment c.args.change.user c.args.change.edits (items_of c.self.inside.rows) = search rules in
+    let rows : items_of next.rows ≡ edited_by itself c.args.change.moment c.args.change.user c.args.change.edits (items_of v.rows) =
+    edited ∙ ap (λ (w : View). edited_by itself c.args.change.moment c.args.change.user c.args.change.edits (items_of w.rows)) c.self.view_is in
     let kept_then : c.take_up-taken.new.blobs.kept ≡ kept_and c.self.inside.blobs.kept added = search rules in
     let kept : next.contents.kept ≡ kept_and v.contents.kept added = kept_then ∙ ap (λ (l : List FileRef). kept_and l added) was in
     let staging : next.contents.staging ≡ None =

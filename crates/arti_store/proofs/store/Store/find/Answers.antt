@@ -4,14 +4,14 @@ use Rattle.std.specs.Option.{option_copied}
 use Rattle.arti_rows.specs.declared.rows.ItemRow.{ItemRow}
 use Rattle.arti_store.specs.Items.{HasFileIn, item_in, find_row}
 use Rattle.arti_store.specs.Store.{View}
-use Rattle.arti_store.proofs.Views.{find_seen}
+use Rattle.arti_store.proofs.Meanings.{find_in}
 use Rattle.arti_store.proofs.Holdings.{found_has, copied_has}
 use Rattle.arti_store.proofs.store.Store.find.Goals as goal
 
 pub returns-clause-item : goal.returns-clause-item
 returns-clause-item c = λ bytes.
     let row : option_copied c.find.result ≡ find_row c.args.self.now.rows c.args.key.now = search rules in
-    ap (option_map (item_in bytes)) row ∙ sym (find_seen bytes c.args.self.now.rows c.args.key.now)
+    ap (option_map (item_in bytes)) row ∙ sym (find_in bytes c.args.self.now.rows c.args.key.now)
 
 pub returns-clause-file : goal.returns-clause-file
 returns-clause-file c =

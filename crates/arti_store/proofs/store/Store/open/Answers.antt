@@ -6,6 +6,7 @@ use Rattle.arti_ground.specs.State.{State, IsDurable}
 use Rattle.arti_journal.specs.Journal.{IsJournal, HoldsJournal, bodies_of}
 use Rattle.arti_blobs.specs.Contents.{end_of, Keeps}
 use Rattle.arti_store.specs.declared.fault.OpenFault.TheVariants.{NotAStore}
+use Rattle.arti_store.specs.Items.{items_of}
 use Rattle.arti_store.specs.Replays.{Replays, ReplaysNot}
 use Rattle.arti_store.specs.Store.{View, AreDistinct}
 use Rattle.arti_store.proofs.Openings.{not_replayed, not_contents, journal_opened, then_read, opened_stands, opened_holds, opened_has}
@@ -48,11 +49,11 @@ returns-in-Err-open_contents-clause-none g c = λ tells is h used stands.
     let journal : IsJournal bodies (old.files 1) = search rules in
     let rows : List ItemRow = c.in-Ok-Some.done.0 in
     let names : List FileRef = c.in-Ok-Some.done.1.items in
-    let replays : Replays limits bodies rows names = search rules in
+    let replays : Replays limits bodies (items_of rows) names = search rules in
     let mid : State = g.G.Ground.state c.open.new.outside in
     let third : mid.files 3 ≡ old.files 3 = (c.open.ensures.now tells).others 3 (omega arith) in
     let fault : c.in-Err-open_contents.fault ≡ NotAStore = cc in
-    not_contents c.one_list_of_bodies.ensures limits old.files bodies journal rows names c.bytes_are_of_one_change.ensures replays
+    not_contents c.one_list_of_bodies.ensures limits old.files bodies journal (items_of rows) names c.bytes_are_of_one_change.ensures replays
     (λ all keeps short within distinct. c.open_contents.ensures.none tells (c.in-Err-open_contents.is ∙ ap Err fault) all (subst (λ (l : List FileRef). Keeps [] l all) (sym c.deref-2.ensures.value) keeps) short
     (omega (arith, within, ap length third)) (subst (λ (b : List ℕ). AreDistinct b all) (sym third) distinct)) h used stands
 
@@ -74,13 +75,13 @@ invariant_of-result g c =
     let bodies : List (List ℕ) = bodies_of c.in-Ok.opened.1.items in
     let rows : List ItemRow = c.in-Ok-Some.done.0 in
     let names : List FileRef = c.in-Ok-Some.done.1.items in
-    let replays : Replays limits bodies rows names = search rules in
+    let replays : Replays limits bodies (items_of rows) names = search rules in
     let keeps : Keeps [] names c.in-Ok-open_contents.blobs.kept = search rules in
     record {
       file_is = search rules;
       files = opened_has limits bodies rows names c.in-Ok-open_contents.blobs.kept replays keeps;
       short = search rules;
-      lens = opened_short limits bodies rows names c.in-Ok-open_contents.blobs.kept replays keeps;
+      lens = opened_short limits bodies (items_of rows) names c.in-Ok-open_contents.blobs.kept replays keeps;
     }
 
 pub returns-clause-stands : goal.returns-clause-stands
@@ -91,7 +92,7 @@ returns-clause-stands g c = λ tells.
     let journal : IsJournal bodies (old.files 1) = search rules in
     let rows : List ItemRow = c.in-Ok-Some.done.0 in
     let names : List FileRef = c.in-Ok-Some.done.1.items in
-    let replays : Replays limits bodies rows names = search rules in
+    let replays : Replays limits bodies (items_of rows) names = search rules in
     let mid : State = g.G.Ground.state c.open.new.outside in
     let third : mid.files 3 ≡ old.files 3 = (c.open.ensures.now tells).others 3 (omega arith) in
     let blobs = c.in-Ok-open_contents.blobs in
@@ -103,7 +104,7 @@ returns-clause-stands g c = λ tells.
     let short : end_of blobs.kept ≤ 2 ^ 62 = search rules in
     let held : HoldsJournal mid 1 c.in-Ok.opened.0.used bodies = search rules in
     let v : View = record { rows = rows; contents = blobs; used = c.in-Ok.opened.0.used; limits = limits; commits = 0; closed = None } in
-    opened_stands limits bodies rows names blobs.kept (old.files 3) replays keeps distinct within short v refl refl refl old.files refl journal held.length_is
+    opened_stands limits bodies (items_of rows) names blobs.kept (old.files 3) replays keeps distinct within short v refl refl refl old.files refl journal held.length_is
 
 pub returns-clause-holds : goal.returns-clause-holds
 returns-clause-holds g c = λ tells is.
@@ -113,7 +114,7 @@ returns-clause-holds g c = λ tells is.
     let journal : IsJournal bodies (old.files 1) = search rules in
     let rows : List ItemRow = c.in-Ok-Some.done.0 in
     let names : List FileRef = c.in-Ok-Some.done.1.items in
-    let replays : Replays limits bodies rows names = search rules in
+    let replays : Replays limits bodies (items_of rows) names = search rules in
     let mid : State = g.G.Ground.state c.open.new.outside in
     let third : mid.files 3 ≡ old.files 3 = (c.open.ensures.now tells).others 3 (omega arith) in
     let blobs = c.in-Ok-open_contents.blobs in
@@ -127,4 +128,4 @@ returns-clause-holds g c = λ tells is.
     let v : View = record { rows = rows; contents = blobs; used = c.in-Ok.opened.0.used; limits = limits; commits = 0; closed = None } in
     let durable : IsDurable mid = search rules in
     let staging : blobs.staging ≡ None = search rules in
-    opened_holds limits bodies rows names blobs.kept (old.files 3) replays keeps distinct within short v refl refl refl mid (g.G.Ground.state c.open_contents.new.outside) c.in-Ok.opened.0.used third held refl durable (c.open_contents.ensures.reads tells) staging
+    opened_holds limits bodies (items_of rows) names blobs.kept (old.files 3) replays keeps distinct within short v refl refl refl mid (g.G.Ground.state c.open_contents.new.outside) c.in-Ok.opened.0.used third held refl durable (c.open_contents.ensures.reads tells) staging
