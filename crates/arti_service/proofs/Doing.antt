@@ -71,7 +71,7 @@ ready_as result l k v is ready = subst (λ (x : Limits). OnOk result (IsReady x 
 -- ---- a deploy, behind the staging of what was sent
 
 module _ (line : ℕ) (alone : Bool) (key : Key) (wanted : SomeDigests) (body : List ℕ) (moment : ℤ) where
-  abbrev answered : Limits → Stock → File → Answer
+  abbrev pub answered : Limits → Stock → File → Answer
   answered limits s sent =
       perform limits s alone (model.decide (λ file. reference_to file s.holding.kept) limits s.holding.repository (model.Deploy key wanted) body sent moment)
 
@@ -84,7 +84,7 @@ module _ (line : ℕ) (alone : Bool) (key : Key) (wanted : SomeDigests) (body : 
   deploy_acts result x0 x1 x2 v0 v1 v2 d file ready limits quiet stock time bytes digests same acts =
       let sent : file_in (x1.files 3) file ≡ file_of_body body = λ i. record { content = bytes i; digests = digests i } in
       let there : ActsFor v1.limits line (answered v1.limits (stock_of x1 v1) (file_in (x1.files 3) file)) result x1 x2 v1 v2 =
-      acts_same v1.limits line _ _ result x1 x2 v1 v2 (same v1.limits (stock_of x1 v1) alone) acts in
+      acts_same v1.limits line (perform v1.limits (stock_of x1 v1) alone (decision_in (x1.files 3) d)) (answered v1.limits (stock_of x1 v1) (file_in (x1.files 3) file)) result x1 x2 v1 v2 (same v1.limits (stock_of x1 v1) alone) acts in
       let here : ActsFor v0.limits line (answered v0.limits (stock_of x0 v0) (file_of_body body)) result x1 x2 v1 v2 =
       subst (λ (l : Limits). ActsFor l line (answered l (stock_of x0 v0) (file_of_body body)) result x1 x2 v1 v2) limits
       (subst (λ (s : Stock). ActsFor v1.limits line (answered v1.limits s (file_of_body body)) result x1 x2 v1 v2) stock
@@ -127,3 +127,11 @@ step_acts limits line alone q moment a result x x' v v' same head asks reads act
     subst (λ (l : Limits). Acts l line (MayReply a (at v.limits alone (asked_is a))) (at v.limits alone (asked_is a)).stock result x x' v v') same acts in
     acts_more limits line (MayReply a (at v.limits alone (asked_is a))) (IsReply limits s q moment) _ _ result x x' v v'
     (may_is limits s q moment a (at v.limits alone (asked_is a)) reads is) (ap (λ (y : Answer). y.stock) is) here
+
+-- what is asked, said otherwise
+module _ (line : ℕ) (alone : Bool) (body : List ℕ) (moment : ℤ) (result : Result (Unit {0}) Stop) (x x' : State) (v v' : View) where
+  abbrev asked_answer : Asked → Answer
+  asked_answer a = perform v.limits (stock_of x v) alone (asked_over (x.files 3) v (asked_is a) body (file_of_body body) moment)
+
+  pub asked_acts : (a b : Asked) → a ≡ b → Acts v.limits line (MayReply b (asked_answer b)) (asked_answer b).stock result x x' v v' → Acts v.limits line (MayReply a (asked_answer a)) (asked_answer a).stock result x x' v v'
+  asked_acts a b is acts = subst (λ (y : Asked). Acts v.limits line (MayReply y (asked_answer y)) (asked_answer y).stock result x x' v v') (sym is) acts

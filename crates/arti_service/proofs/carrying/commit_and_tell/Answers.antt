@@ -68,8 +68,8 @@ returns-in-Device-clause-acts g c = λ gt.
     _ _ (e.told gt)
     (committing c.requires.ready (e.moments gt c.requires.ready.still_open (codec.change.spell c.args.change) (c.requires.may.has_bytes, refl)))
 
-pub returns-clause-acts : goal.returns-clause-acts
-returns-clause-acts g c = λ gt.
+pub returns-in-Memory-clause-acts : goal.returns-in-Memory-clause-acts
+returns-in-Memory-clause-acts g c = λ gt.
     let e = c.commit.ensures in
     let is = ended c.outcome_of.result _ _ c.in-Memory.is c.outcome_of.ensures in
     ⊎_elim

@@ -9,6 +9,9 @@ use Rattle.arti_service.proofs.carrying.perform.Goals as goal
 pub prepare-requires : goal.prepare-requires
 prepare-requires g c = has_status c.args.store.now c.args.staged c.args.decision c.requires.may
 
+pub carry_out-requires-clause-may : goal.carry_out-requires-clause-may
+carry_out-requires-clause-may g c = c.in_ok-act.ensures.may c.args.store.now c.args.staged c.requires.may
+
 pub returns-clause-acts : goal.returns-clause-acts
 returns-clause-acts g c = λ gt.
     let x = g.G.Ground.state c.args.ground.now in
