@@ -114,7 +114,7 @@ module _ (v : View) (bytes : List ℕ) (moment : ℤ) (key : Key) (wanted : Some
 
 -- a deploy of what was found, by what is in its way and by what it is
 pub found_is : (v : View) (bytes : List ℕ) (moment : ℤ) (key : Key) (wanted : SomeDigests) (body : List ℕ) (sent : File) (barred : Bool) (found : Option File)
-    → is_barred (holding_of bytes v).repository.items key ≡ barred → file_with wanted (holding_of bytes v).repository.items ≡ found
+    → is_barred (holding_of bytes v).repository.items key ≡ barred → file_with (λ (f : File). f.digests) wanted (holding_of bytes v).repository.items ≡ found
     → cond barred (model.Refused (refusals.NotYet None)) (model.decide_found (λ f. reference_to f (holding_of bytes v).kept) v.limits (holding_of bytes v).repository moment key wanted found)
     ≡ decided_in bytes v (model.DeployFound key wanted) body sent moment
 found_is v bytes moment key wanted body sent barred found bar is = λ i.

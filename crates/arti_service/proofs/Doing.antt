@@ -94,11 +94,11 @@ module _ (line : ℕ) (alone : Bool) (key : Key) (wanted : SomeDigests) (body : 
 -- ---- a query leaves the store
 
 module _ (limits : Limits) (s : Stock) (alone : Bool) where
-  key_stays : (r : Repository) (body : List ℕ) (key : Option (List ℕ)) → (perform limits s alone (model.decide_by_key r body key)).stock ≡ s
+  key_stays : (r : Repository File) (body : List ℕ) (key : Option (List ℕ)) → (perform limits s alone (model.decide_by_key r body key)).stock ≡ s
   key_stays r body None = refl
   key_stays r body (Some key) = refl
 
-  pub query_stays : (r : Repository) (body : List ℕ) → (perform limits s alone (model.decide_query limits r body)).stock ≡ s
+  pub query_stays : (r : Repository File) (body : List ℕ) → (perform limits s alone (model.decide_query limits r body)).stock ≡ s
   query_stays r body =
       elim (nat_lt limits.document (length body)) as (λ b. (perform limits s alone (cond b (model.Refused refusals.DocumentTooLarge) (model.decide_by_key r body (thin_key body)))).stock ≡ s)
       [ true ↦ refl | false ↦ key_stays r body (thin_key body) ]

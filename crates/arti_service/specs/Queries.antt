@@ -3,7 +3,7 @@ use Rattle.std.specs.Prelude.{◌≡◌, ℕ, List, length, IfSome}
 use Rattle.arti_rows.specs.declared.rows.ItemRow.{ItemRow}
 use Rattle.arti_blobs.specs.Contents.{content}
 use Rattle.arti_model.specs.Store.{File}
-use Rattle.arti_model.specs.Query.{all_in, query_text}
+use Rattle.arti_model.specs.Query.{file_size, all_in, query_text}
 use Rattle.arti_model.specs.Decide as model
 use Rattle.arti_store.specs.Store.{View, holding_of}
 
@@ -13,4 +13,4 @@ IsWhole bytes row = IfSome row.file (λ file. length (content bytes file) ≡ fi
 
 -- what the model decides of a query for the items of that repository
 abbrev pub key_over : List ℕ → View → List ℕ → model.Decision File
-key_over bytes v repo = model.Tells (model.json 200 (query_text (all_in repo) (holding_of bytes v).repository))
+key_over bytes v repo = model.Tells (model.json 200 (query_text file_size (all_in repo) (holding_of bytes v).repository))

@@ -1,7 +1,7 @@
 // What is decided of a query.
 ghost use Rattle.std.specs.Prelude.{◌≡◌, ◌&&◌, ℕ, ℤ, List, All, IfOk, map, None};
 ghost use Rattle.arti_model.specs.Store.{File, is_file};
-ghost use Rattle.arti_model.specs.Query.{Equals, Repo, all_in, facts_of, holds, page};
+ghost use Rattle.arti_model.specs.Query.{Equals, Repo, all_in, file_size, facts_of, holds, page};
 ghost use Rattle.arti_model.specs.Decide as model;
 ghost use Rattle.arti_aql_reply.specs.Rows.{facts_of_rows};
 ghost use Rattle.arti_store.specs.Items.{item_in, items_in};
@@ -17,7 +17,7 @@ use std::alloc::{AllocError, Global};
 
 // Whether the row is a file of that repository.
 fn is_file_in(row: &ItemRow, repo: &str) -> bool
-    ensures { (bytes : List ℕ) → result ≡ (is_file (item_in bytes row.now) && holds (Equals Repo repo.now) (facts_of (item_in bytes row.now))) }
+    ensures { (bytes : List ℕ) → result ≡ (is_file (item_in bytes row.now) && holds (Equals Repo repo.now) (facts_of file_size (item_in bytes row.now))) }
 {
     row.file.is_some() && row.key.repo.as_str() == repo
 }
@@ -28,7 +28,7 @@ fn files_in<'a>(
     rows: &'a [ItemRow],
     repo: &str,
 ) -> Result<Vec<&'a ItemRow>, AllocError>
-    ensures { (bytes : List ℕ) → All (IsWhole bytes) rows.now → IfOk result (λ v. facts_of_rows v.items ≡ map facts_of (page (all_in repo.now) (record { items = items_in bytes rows.now }))) }
+    ensures { (bytes : List ℕ) → All (IsWhole bytes) rows.now → IfOk result (λ v. facts_of_rows v.items ≡ map (facts_of file_size) (page file_size (all_in repo.now) (record { items = items_in bytes rows.now }))) }
 {
     let mut out = Vec::new(alloc);
     for row in rows {

@@ -3,6 +3,7 @@ use Rattle.std.specs.Prelude.{option_map}
 use Rattle.std.proofs.lemmas.Result.{IfOk-weaker}
 use Rattle.arti_rows.specs.declared.refusal.Refusal.TheVariants as refusals
 use Rattle.arti_model.specs.Deploys.{file_with}
+use Rattle.arti_model.specs.Store.{File}
 use Rattle.arti_model.specs.Decide as model
 use Rattle.arti_store.specs.Items.{file_in, items_in}
 use Rattle.arti_service.specs.Decisions.{decided_in}
@@ -14,7 +15,7 @@ use Rattle.arti_service.proofs.deploy.decide_deploy_found.Goals as goal
 pub returns-then-is_barred : goal.returns-then-is_barred
 returns-then-is_barred c = λ body sent. record {
   means = λ bytes whole.
-      let found = file_with c.args.wanted.now (items_in bytes c.args.store.now.rows) in
+      let found = file_with (λ (f : File). f.digests) c.args.wanted.now (items_in bytes c.args.store.now.rows) in
       same_as (model.Refused (refusals.NotYet None)) (decided_in bytes c.args.store.now (model.DeployFound c.args.key c.args.wanted.now) body sent c.args.moment)
       (found_is c.args.store.now bytes c.args.moment c.args.key c.args.wanted.now body sent true found (sym (c.is_barred.ensures bytes) ∙ c.if-is_barred.true) (λ i. found));
   may = tt;

@@ -18,7 +18,7 @@ use Rattle.arti_service.proofs.query.decide_query.Goals as goal
 
 -- a query whose body isn't too large, by what its key is
 module _ (v : View) (body : List ℕ) (small : nat_lt v.limits.document (length body) ≡ false) (bytes : List ℕ) where
-  abbrev r : Repository
+  abbrev r : Repository File
   r = (holding_of bytes v).repository
 
   by_key : (key : Option (List ℕ)) → thin_key body ≡ key → model.decide_by_key r body key ≡ model.decide_query v.limits r body
