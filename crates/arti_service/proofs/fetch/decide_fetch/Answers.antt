@@ -1,15 +1,16 @@
 use Rattle.std.proofs.Common.{◌≡◌, refl, sym, ap, ◌∙◌, subst, rules}
-use Rattle.std.specs.Prelude.{All, Contains, None}
+use Rattle.std.specs.Prelude.{All, Contains, None, option_map}
 use Rattle.arti_rows.specs.declared.edits.Change.{Change}
+use Rattle.arti_rows.specs.declared.refusal.Refusal.TheVariants as refusals
 use Rattle.arti_model.specs.Apply.{refusal}
 use Rattle.arti_model.specs.Step.{anonymous, file_at}
 use Rattle.arti_model.specs.Decide as model
 use Rattle.arti_store.specs.Items.{file_in, items_in}
 use Rattle.arti_store.specs.Changes.{references_of}
 use Rattle.arti_store.specs.Store.{holding_of, kept_and}
-use Rattle.arti_service.specs.Decisions.{SameDone}
+use Rattle.arti_service.specs.Decisions.{SameDone, decided_in}
 use Rattle.arti_service.proofs.Changes.{fetch_accepted, no_references}
-use Rattle.arti_service.proofs.Deploying.{fetches}
+use Rattle.arti_service.proofs.Deploying.{fetches, same_as}
 use Rattle.arti_service.proofs.fetch.decide_fetch.Goals as goal
 
 pub returns : goal.returns
@@ -33,3 +34,12 @@ returns c = λ body sent.
         record { status = refl; kept = c.in-Some.ensures.kept },
       );
     }
+
+pub returns-in_default : goal.returns-in_default
+returns-in_default c = λ body sent. record {
+  means = λ bytes whole.
+      let v = c.args.store.now in
+      let none : None ≡ file_at (items_in bytes v.rows) c.args.key = ap (option_map (file_in bytes)) (sym c.in_default.is) ∙ c.file_at.ensures.file bytes in
+      same_as (model.Refused (refusals.NotFound c.args.key)) (decided_in bytes v (model.Fetch c.args.key) body sent c.args.moment) (ap (model.decide_content c.args.moment c.args.key) none);
+  may = tt;
+}
