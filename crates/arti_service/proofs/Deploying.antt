@@ -1,5 +1,5 @@
 -- That what is decided of deploys, fetches and queries is as the model decides.
-use Rattle.std.proofs.Common.{◌≡◌, ℕ, ◌+◌, ℤ, Bool, true, false, cond, List, [], ◌∷◌, ◌++◌, length, refl, sym, ap, ◌∙◌, subst}
+use Rattle.std.proofs.Common.{◌≡◌, ℕ, ◌+◌, ℤ, Bool, true, false, cond, List, [], ◌∷◌, length, refl, sym, ap, ◌∙◌, subst}
 use Rattle.std.specs.Prelude.{Result, Option, Some, None, ◌||◌, nat_lt, nat_le, codes}
 use Rattle.arti_rows.specs.Key.{Key}
 use Rattle.arti_rows.specs.declared.limits.Limits.{Limits}
@@ -18,7 +18,7 @@ use Rattle.arti_model.specs.Stock.{Stock, Answer, unchanged, reference_to, fills
 use Rattle.arti_model.specs.Step.{anonymous, is_barred, fetch_change, reply_room}
 use Rattle.arti_model.specs.Decide as model
 use Rattle.arti_model.specs.Perform.{told, refusal_reply, perform}
-use Rattle.arti_store.specs.Items.{file_in, items_in}
+use Rattle.arti_store.specs.Items.{file_in}
 use Rattle.arti_store.specs.Store.{View, holding_of}
 use Rattle.arti_service.specs.declared.answering.Stop.{Stop}
 use Rattle.arti_service.specs.Acts.{ActsFor}

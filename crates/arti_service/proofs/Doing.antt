@@ -1,25 +1,24 @@
 -- What is decided, done: from what is left to do back to what the model answers.
-use Rattle.std.proofs.Common.{◌≡◌, ◌⊎◌, inl, inr, ⊎_elim, ℕ, ℤ, Bool, true, false, cond, List, [], ◌∷◌, ◌++◌, length, refl, sym, ap, ◌∙◌, subst}
-use Rattle.std.specs.Prelude.{Result, OnOk, Option, Some, None, IsTrue, nat_lt}
+use Rattle.std.proofs.Common.{◌≡◌, inl, inr, ⊎_elim, ℕ, ℤ, Bool, true, false, cond, List, [], ◌∷◌, ◌++◌, length, refl, sym, ap, ◌∙◌, subst}
+use Rattle.std.specs.Prelude.{Result, OnOk, Option, Some, None, nat_lt}
 use Rattle.std.proofs.lemmas.List.Elements.{All-contains, All-append, All-cons, All-nil}
 use Rattle.arti_rows.specs.Key.{Key}
 use Rattle.arti_rows.specs.declared.limits.Limits.{Limits}
-use Rattle.arti_rows.specs.declared.rows.Digests.{Digests}
 use Rattle.arti_rows.specs.declared.rows.FileRef.{FileRef}
 use Rattle.arti_rows.specs.declared.rows.SomeDigests.{SomeDigests}
 use Rattle.arti_rows.specs.declared.refusal.Refusal.{Refusal}
 use Rattle.arti_rows.specs.declared.refusal.Refusal.TheVariants as refusals
-use Rattle.arti_ground.specs.State.{Bytes, State, Passes}
+use Rattle.arti_ground.specs.State.{State, Passes}
 use Rattle.arti_blobs.specs.declared.staging.Staged.{Staged}
 use Rattle.arti_blobs.specs.Contents.{content, kept_with}
-use Rattle.arti_model.specs.Requests.{Request, Whole}
+use Rattle.arti_model.specs.Requests.{Whole}
 use Rattle.arti_model.specs.Store.{Repository, File}
 use Rattle.arti_model.specs.Query.{thin_key}
 use Rattle.arti_model.specs.Stock.{Stock, Answer, reference_to}
 use Rattle.arti_model.specs.Step.{step, file_of_body, digests_of}
-use Rattle.arti_model.specs.Run.{IsReply, is_reading, memory_reply}
+use Rattle.arti_model.specs.Run.{IsReply}
 use Rattle.arti_model.specs.Decide as model
-use Rattle.arti_model.specs.Perform.{is_head, perform, performed}
+use Rattle.arti_model.specs.Perform.{is_head, perform}
 use Rattle.arti_model.specs.StepLaws.{step_is}
 use Rattle.arti_store.specs.Items.{file_in}
 use Rattle.arti_store.specs.Store.{View, Standing}

@@ -18,7 +18,7 @@ use Rattle.arti_service.specs.declared.decision.Decision.{Decision}
 use Rattle.arti_service.specs.declared.decision.Decision.TheVariants.{Refused, Tells, Makes}
 use Rattle.arti_service.specs.Asks as asks
 use Rattle.arti_service.specs.Cuts.{StoppedIn}
-use Rattle.arti_service.specs.Decisions.{IsKept, MayMake}
+use Rattle.arti_service.specs.Decisions.{MayMake}
 use Rattle.arti_service.specs.Parts.{rest_of}
 use Rattle.arti_service.specs.Stocks.{stock_of}
 use Rattle.arti_service.specs.Moments.{AtMoment, During}

@@ -1,8 +1,6 @@
-use Rattle.std.proofs.Common.{◌≡◌, ◌++◌, ◌∙◌, List, sym, ap}
+use Rattle.std.proofs.Common.{◌++◌, ◌∙◌, sym, ap}
 use Rattle.arti_blobs.specs.Contents.{content}
 use Rattle.arti_model.specs.Stock.{unchanged}
-use Rattle.arti_model.specs.Decide as model
-use Rattle.arti_model.specs.Store.{File}
 use Rattle.arti_model.specs.Perform.{content_bytes, told}
 use Rattle.arti_service.specs.declared.decision.Body.{Body}
 use Rattle.arti_service.specs.Decisions.{body_in, reply_in}

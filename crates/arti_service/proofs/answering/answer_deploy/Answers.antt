@@ -1,4 +1,4 @@
-use Rattle.std.proofs.Common.{◌≡◌, ℕ, length, sym, ap, ◌∙◌, subst, rules}
+use Rattle.std.proofs.Common.{◌≡◌, length, sym, ap, ◌∙◌, subst, rules}
 use Rattle.std.specs.Prelude.{Result, Err}
 use Rattle.arti_model.specs.Step.{file_of_body}
 use Rattle.arti_service.specs.Acts.{ActsFor}
@@ -6,7 +6,6 @@ use Rattle.arti_service.specs.Stocks.{stock_of}
 use Rattle.arti_service.specs.declared.answering.Stop.{Stop}
 use Rattle.arti_service.specs.declared.answering.Stop.TheVariants as stop
 use Rattle.arti_service.proofs.Commits.{standing_acts}
-use Rattle.arti_blobs.specs.Contents.{content}
 use Rattle.arti_store.specs.ImageLaws.{contents_whole}
 use Rattle.arti_service.proofs.Doing.{answered, deploy_acts, staged_whole}
 use Rattle.arti_service.proofs.answering.answer_deploy.Goals as goal

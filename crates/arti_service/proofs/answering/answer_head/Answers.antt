@@ -1,5 +1,4 @@
 use Rattle.std.proofs.Common.{[]}
-use Rattle.std.specs.Prelude.{None}
 use Rattle.arti_model.specs.Step.{file_of_body}
 use Rattle.arti_store.specs.ImageLaws.{contents_whole}
 use Rattle.arti_model.specs.Perform.{perform}

@@ -1,4 +1,4 @@
-use Rattle.std.proofs.Common.{◌≡◌, ◌⊎◌, inl, inr, ℕ, List, refl, sym, subst}
+use Rattle.std.proofs.Common.{◌≡◌, ◌⊎◌, inl, inr, refl, sym, subst}
 use Rattle.arti_model.specs.Decide as model
 use Rattle.arti_model.specs.Perform.{perform}
 use Rattle.arti_model.specs.Run.{memory_reply}

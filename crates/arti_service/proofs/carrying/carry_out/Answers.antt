@@ -1,4 +1,4 @@
-use Rattle.std.proofs.Common.{◌≡◌, ◌++◌, ℕ, List, refl, sym, ap, ◌∙◌, subst}
+use Rattle.std.proofs.Common.{◌≡◌, ◌++◌, ℕ, List, refl, sym, ap, subst}
 use Rattle.std.specs.Prelude.{OnOk, OnErr, IfErr, Option}
 use Rattle.std.specs.Option.{option_copied}
 use Rattle.arti_rows.specs.declared.rows.FileRef.{FileRef}

@@ -2,7 +2,6 @@ use Rattle.std.proofs.Common.{◌≡◌, ◌<◌, ℕ, false, List, length, refl
 use Rattle.std.specs.Prelude.{All, IsErrOf, None, map, nat_le}
 use Rattle.std.proofs.lemmas.Bool.Decides.{nat_tests}
 use Rattle.arti_rows.specs.declared.rows.ItemRow.{ItemRow}
-use Rattle.arti_rows.specs.declared.refusal.Refusal.TheVariants as refusals
 use Rattle.arti_aql_reply.specs.Rows.{facts_of_rows}
 use Rattle.arti_aql_reply.specs.declared.fault.ReplyFault.TheVariants.{ReplyTooLarge}
 use Rattle.arti_model.specs.Query.{Facts, all_in, facts_of, file_size, page, query_text, reply_text}

@@ -1,9 +1,9 @@
-use Rattle.std.proofs.Common.{◌≡◌, ℕ, ℤ, Bool, false, List, cond, length, sym, ap, subst, ◌∙◌, rules}
+use Rattle.std.proofs.Common.{◌≡◌, ℕ, Bool, false, List, cond, length, sym, ap, subst, ◌∙◌, rules}
 use Rattle.std.specs.Prelude.{Option, Some, None, nat_lt}
 use Rattle.std.proofs.lemmas.Bool.{le-ltb}
 use Rattle.std.proofs.lemmas.Result.{IfOk-weaker}
 use Rattle.arti_rows.specs.declared.refusal.Refusal.TheVariants as refusals
-use Rattle.arti_model.specs.Query.{thin_key, thin_end, all_in, query_text}
+use Rattle.arti_model.specs.Query.{thin_key}
 use Rattle.arti_model.specs.Store.{Repository, File}
 use Rattle.arti_model.specs.Decide as model
 use Rattle.arti_store.specs.Store.{View, holding_of}
