@@ -11,3 +11,7 @@ pub mod Laws
 pub mod OrderLaws
 pub mod Step
 pub mod Run
+pub mod Refusals
+pub mod Decide
+pub mod Perform
+pub mod StepLaws

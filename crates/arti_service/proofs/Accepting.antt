@@ -1,30 +1,31 @@
 -- Which changes there is room for.
-use Rattle.std.proofs.Common.{◌≡◌, ◌⊎◌, inl, inr, ⊎_elim, ℕ, zero, suc, ◌+◌, ◌<◌, ◌≤◌, ℤ, Bool, true, false, cond, List, [], ◌∷◌, ◌++◌, length, get_or, refl, sym, ap, ◌∙◌, subst, arith, length-append}
-use Rattle.std.specs.Prelude.{All, Contains, map, IfSome, IsTrue, Option, Some, None, nat_lt, nat_eq, ◌&&◌, ◌||◌, codes, ◌↔◌}
+use Rattle.std.proofs.Common.{◌≡◌, ◌⊎◌, inl, inr, ⊎_elim, ℕ, zero, suc, ◌+◌, ◌<◌, ◌≤◌, Bool, true, false, cond, List, [], ◌∷◌, ◌++◌, length, get_or, refl, sym, ap, ◌∙◌, subst, arith, length-append}
+use Rattle.std.specs.Prelude.{All, Contains, map, IsTrue, Option, Some, None, nat_lt, nat_eq, ◌&&◌, ◌||◌, codes, ◌↔◌}
 use Rattle.std.specs.List.{list_any}
 use Rattle.std.specs.Cmp.Lexicographic.{pointwise}
 use Rattle.std.proofs.lemmas.Bool.{false≢true, cases_lt}
 use Rattle.std.proofs.lemmas.Bool.Decides.{nat_tests}
 use Rattle.std.proofs.lemmas.List.Sums.{sum_by-cons, sum_by-append}
-use Rattle.std.proofs.lemmas.List.Elements.{All-head, All-tail}
-use Rattle.arti_rows.specs.Key.{Key}
+use Rattle.std.proofs.lemmas.List.{map-append}
+use Rattle.std.proofs.lemmas.List.Elements.{All-head, All-tail, All-contains, Contains-append_cases, Contains-append_right}
 use Rattle.arti_rows.specs.declared.limits.Limits.{Limits}
 use Rattle.arti_rows.specs.declared.rows.Digests.{Digests}
 use Rattle.arti_rows.specs.declared.rows.FileRef.{FileRef}
-use Rattle.arti_rows.specs.declared.rows.Given.{Given}
 use Rattle.arti_rows.specs.declared.edits.Change.{Change}
+use Rattle.arti_rows.specs.declared.edits.Edit.{Edit}
 use Rattle.arti_rows.specs.declared.edits.Edit.TheVariants as edits
 use Rattle.arti_blobs.specs.declared.staging.Staged.{Staged}
-use Rattle.arti_blobs.specs.Contents.{content, end_of, HasPair}
+use Rattle.arti_blobs.specs.Contents.{content, end_of, HasPair, kept_with}
 use Rattle.arti_codec.specs.ChangeBytes as codec
 use Rattle.arti_codec.specs.ChangeBytes.{ChangeBytes, HasBytes}
 use Rattle.arti_model.specs.Store.{File}
-use Rattle.arti_model.specs.Apply.{Holding, same_digests, same_file, keep, apply}
+use Rattle.arti_model.specs.Apply.{Holding, same_digests, same_file, keep, keep_edited, keep_edited_by, apply}
 use Rattle.arti_model.specs.Bodies.{refused}
 use Rattle.arti_model.specs.Stock.{Stock, Answer, unchanged, kept_length, fills_blobs, body_length, fills_journal, accept}
 use Rattle.arti_store.specs.Items.{file_in}
-use Rattle.arti_store.specs.Changes.{references_of}
-use Rattle.arti_store.specs.Store.{View, holding_of, PassesBlobs, PassesJournal}
+use Rattle.arti_store.specs.Changes.{edit_references, references_of}
+use Rattle.arti_store.specs.Store.{View, holding_of, kept_and, IsFresh, IsStaged, PassesBlobs, PassesJournal}
+use Rattle.arti_service.specs.Decisions.{AreWhole}
 use Rattle.arti_service.proofs.Thin.{same_texts, both, left_of, right_of}
 
 -- ---- the three ways that a change goes
@@ -179,92 +180,183 @@ fills_same limits kept = not_true (fills_blobs limits kept kept) (λ e. absurd (
 longer : (kept : List File) (f : File) → nat_lt (length kept) (length (kept ++ f ∷ [])) ≡ true
 longer kept f = lt_true (length kept) (length (kept ++ f ∷ [])) (omega (arith, length-append kept (f ∷ [])))
 
-module _ (limits : Limits) (bytes : List ℕ) (v : View) (same_limits : v.limits ≡ limits) (whole : All (λ (file : FileRef). length (content bytes file) ≡ file.len) v.contents.kept) where
+-- ---- what a change adds to the kept contents
+
+-- several, one after the other
+abbrev keep_all : List File → List File → List File
+keep_all [] kept = kept
+keep_all (file ∷ files) kept = keep_all files (keep file kept)
+
+keep_all-append : (a b kept : List File) → keep_all (a ++ b) kept ≡ keep_all b (keep_all a kept)
+keep_all-append [] b kept = refl
+keep_all-append (file ∷ a) b kept = keep_all-append a b (keep file kept)
+
+module _ (g : FileRef → File) where
+  one_edit : (edit : Edit) (kept : List File) → keep_edited g edit kept ≡ keep_all (map g (edit_references edit)) kept
+  one_edit (edits.Define def) kept = refl
+  one_edit (edits.Folder key) kept = refl
+  one_edit (edits.File key given file props) kept = refl
+  one_edit (edits.Remove key) kept = refl
+  one_edit (edits.Move from to) kept = refl
+  one_edit (edits.Copy from to) kept = refl
+  one_edit (edits.SetProps key deep props) kept = refl
+  one_edit (edits.DropProps key deep keys) kept = refl
+  one_edit (edits.Downloaded key) kept = refl
+  one_edit (edits.Build info) kept = refl
+  one_edit (edits.Unbuild name number) kept = refl
+  one_edit (edits.Promote name number row) kept = refl
+  one_edit (edits.Kept file) kept = refl
+  one_edit (edits.Item row) kept = refl
+  one_edit (edits.Held row) kept = refl
+
+  all_edits : (es : List Edit) (kept : List File) → keep_edited_by g es kept ≡ keep_all (map g (references_of es)) kept
+  all_edits [] kept = refl
+  all_edits (edit ∷ es) kept =
+      all_edits es (keep_edited g edit kept)
+      ∙ ap (keep_all (map g (references_of es))) (one_edit edit kept)
+      ∙ sym (keep_all-append (map g (edit_references edit)) (map g (references_of es)) kept)
+      ∙ ap (λ (l : List File). keep_all l kept) (sym (map-append g (edit_references edit) (references_of es)))
+
+later_has : (r : FileRef) (refs : List FileRef) (s : FileRef) → Contains refs s → Contains (r ∷ refs) s
+later_has r refs s (i, lt, e) = (suc i, omega (arith, lt), e)
+
+first_or_later : (r : FileRef) (refs : List FileRef) (s : FileRef) → Contains (r ∷ refs) s → (r ≡ s) ⊎ Contains refs s
+first_or_later r refs s (zero, lt, e) = inl e
+first_or_later r refs s (suc i, lt, e) = inr (i, omega (arith, lt), e)
+
+none_has : (s : FileRef) → Contains [] s → ⊥
+none_has s (i, lt, e) = omega (arith, lt)
+
+module _ (bytes : List ℕ) where
+  abbrev files_of : List FileRef → List File
+  files_of kept = map (file_in bytes) kept
+
+  is_kept : (kept : List FileRef) (r : FileRef) → Contains kept r → keep (file_in bytes r) (files_of kept) ≡ files_of kept
+  is_kept kept r has = ap (λ (b : Bool). cond b (files_of kept) (files_of kept ++ file_in bytes r ∷ [])) (kept_any bytes r kept has)
+
+  -- contents that are kept already add nothing
+  none_new : (kept refs : List FileRef) → All (Contains kept) refs → keep_all (files_of refs) (files_of kept) ≡ files_of kept
+  none_new kept [] all = refl
+  none_new kept (r ∷ refs) all =
+      ap (keep_all (files_of refs)) (is_kept kept r (All-head (Contains kept) r refs all)) ∙ none_new kept refs (All-tail (Contains kept) r refs all)
+
+  -- beside them is one that isn't kept
+  module _ (kept : List FileRef) (s : FileRef) (new : HasPair bytes kept (content bytes s) s.digests → ⊥) where
+    abbrev with_new : List File
+    with_new = files_of kept ++ file_in bytes s ∷ []
+
+    is_new : keep (file_in bytes s) (files_of kept) ≡ with_new
+    is_new =
+        ap (λ (b : Bool). cond b (files_of kept) with_new)
+        (not_true (list_any (same_file (file_in bytes s)) (files_of kept)) (λ e. new (any_has bytes s kept e)))
+
+    -- it is added where it is named
+    abbrev Adds : List FileRef → Type 0
+    Adds refs =
+        ((keep_all (files_of refs) (files_of kept) ≡ files_of kept) × (Contains refs s → ⊥))
+        ⊎ ((keep_all (files_of refs) (files_of kept) ≡ with_new) × Contains refs s)
+
+    adds_old : (r : FileRef) (refs : List FileRef) → Contains kept r → Adds refs → Adds (r ∷ refs)
+    adds_old r refs here (inl none) = inl (
+      ap (keep_all (files_of refs)) (is_kept kept r here) ∙ none.0,
+      λ has. ⊎_elim
+          (λ same. new (record { file = r; is_kept = here; same_bytes = ap (content bytes) same; same_digests = ap (λ (f : FileRef). f.digests) same }))
+          none.1 (first_or_later r refs s has),
+    )
+    adds_old r refs here (inr some) = inr (ap (keep_all (files_of refs)) (is_kept kept r here) ∙ some.0, later_has r refs s some.1)
+
+    adds_new : (r : FileRef) (refs : List FileRef) → r ≡ s → All (Contains (kept ++ s ∷ [])) refs → Adds (r ∷ refs)
+    adds_new r refs same all = inr (
+      ap (λ (f : FileRef). keep_all (files_of refs) (keep (file_in bytes f) (files_of kept))) same
+          ∙ ap (keep_all (files_of refs)) (is_new ∙ sym (map-append (file_in bytes) kept (s ∷ [])))
+          ∙ none_new (kept ++ s ∷ []) refs all
+          ∙ map-append (file_in bytes) kept (s ∷ []),
+      (zero, omega arith, same),
+    )
+
+    adds : (refs : List FileRef) → All (Contains (kept ++ s ∷ [])) refs → Adds refs
+    adds [] all = inl (refl, none_has s)
+    adds (r ∷ refs) all =
+        let rest = All-tail (Contains (kept ++ s ∷ [])) r refs all in
+        ⊎_elim (λ here. adds_old r refs here (adds refs rest))
+        (λ last. adds_new r refs (⊎_elim (λ same. sym same) (λ none. absurd (none_has r none)) (first_or_later s [] r last)) rest)
+        (Contains-append_cases kept (s ∷ []) r (All-head (Contains (kept ++ s ∷ [])) r refs all))
+
+-- ---- the limit of kept bytes is passed exactly where the store finds it passed
+
+module _ (bytes : List ℕ) (v : View) (change : Change) where
   abbrev kept : List FileRef
   kept = v.contents.kept
 
-  abbrev files : List File
-  files = map (file_in bytes) kept
+  abbrev refs : List FileRef
+  refs = references_of change.edits
 
-  module _ (moment : ℤ) (user : List ℕ) (key : Key) (given : Given) (file : FileRef) (long : length (content bytes file) ≡ file.len) (staged : Option Staged) where
-    abbrev change : Change
-    change = record { moment = moment; user = user; edits = edits.File key given file [] ∷ [] }
+  abbrev next : List File
+  next = (apply (file_in bytes) change (holding_of bytes v)).kept
 
-    abbrev next : List File
-    next = (apply (file_in bytes) change (holding_of bytes v)).kept
+  next_is : next ≡ keep_all (files_of bytes refs) (files_of bytes kept)
+  unfolding apply
+  next_is = all_edits (file_in bytes) change.edits (files_of bytes kept)
 
-    next_is : next ≡ keep (file_in bytes file) files
-    unfolding apply
-    next_is = refl
+  abbrev Agrees : Option Staged → Type 0
+  Agrees staged = IsTrue (fills_blobs v.limits (files_of bytes kept) next) ↔ PassesBlobs v refs staged
 
-    next_old : list_any (same_file (file_in bytes file)) files ≡ true → next ≡ files
-    next_old e = next_is ∙ ap (λ (b : Bool). cond b files (files ++ file_in bytes file ∷ [])) e
+  -- nothing is added
+  agrees_same : (staged : Option Staged) → next ≡ files_of bytes kept → (PassesBlobs v refs staged → ⊥) → Agrees staged
+  agrees_same staged same never = (
+    (λ fills. absurd (false≢true (sym (ap (fills_blobs v.limits (files_of bytes kept)) same ∙ fills_same v.limits (files_of bytes kept)) ∙ fills))),
+    (λ passes. absurd (never passes)),
+  )
 
-    next_new : list_any (same_file (file_in bytes file)) files ≡ false → next ≡ files ++ file_in bytes file ∷ []
-    next_new e = next_is ∙ ap (λ (b : Bool). cond b files (files ++ file_in bytes file ∷ [])) e
+  -- the staged content is
+  module _ (s : Staged) (fresh : IsTrue s.fresh) (named : Contains refs s.file) (whole : AreWhole bytes kept) (long : length (content bytes s.file) ≡ s.file.len)
+      (is : next ≡ files_of bytes kept ++ file_in bytes s.file ∷ []) where
+    fills_is : fills_blobs v.limits (files_of bytes kept) next ≡ nat_lt v.limits.blobs (end_of kept + s.file.len)
+    fills_is =
+        ap (fills_blobs v.limits (files_of bytes kept)) is
+        ∙ ap (λ (b : Bool). b && nat_lt v.limits.blobs (kept_length (files_of bytes kept ++ file_in bytes s.file ∷ []))) (longer (files_of bytes kept) (file_in bytes s.file))
+        ∙ ap (nat_lt v.limits.blobs) (kept_length-push (files_of bytes kept) (file_in bytes s.file) ∙ (λ i. kept_ends bytes kept whole i + long i))
 
-    fills_new : list_any (same_file (file_in bytes file)) files ≡ false → fills_blobs limits files next ≡ nat_lt limits.blobs (end_of kept + file.len)
-    fills_new e =
-        ap (fills_blobs limits files) (next_new e)
-        ∙ ap (λ (b : Bool). b && nat_lt limits.blobs (kept_length (files ++ file_in bytes file ∷ []))) (longer files (file_in bytes file))
-        ∙ ap (nat_lt limits.blobs) (kept_length-push files (file_in bytes file) ∙ (λ i. kept_ends bytes kept whole i + long i))
-
-    -- by whether the pair is kept
-    fills_by : (any : Bool) → list_any (same_file (file_in bytes file)) files ≡ any
-        → IfSome staged (λ s. s.file ≡ file) → ((s : Staged) → staged ≡ Some s → (s.fresh ≡ false ↔ HasPair bytes kept (content bytes file) file.digests))
-        → (staged ≡ None → Contains kept file)
-        → IsTrue (fills_blobs limits files next) ↔ PassesBlobs v (references_of change.edits) staged
-    fills_by true e named fresh old = (
-      (λ fills. absurd (false≢true (sym (ap (fills_blobs limits files) (next_old e) ∙ fills_same limits files) ∙ fills))),
+    agrees_new : Agrees (Some s)
+    agrees_new = (
+      (λ fills. record {
+        staged = s;
+        added = record { is = refl; fresh = fresh; named = named };
+        passes = lt_from v.limits.blobs (end_of kept + s.file.len) (sym fills_is ∙ fills);
+      }),
       (λ passes.
-          let s = passes.staged in
-          let is_old : s.fresh ≡ false = (fresh s passes.added.is).1 (any_has bytes file kept e) in
-          absurd (false≢true (sym is_old ∙ passes.added.fresh))),
+          let same : s ≡ passes.staged = cc passes.added.is in
+          fills_is ∙ lt_true v.limits.blobs (end_of kept + s.file.len) (subst (λ (t : Staged). v.limits.blobs < end_of kept + t.file.len) (sym same) passes.passes)),
     )
-    fills_by false e named fresh old = (
-      (λ fills. passes_by staged refl fills),
-      (λ passes.
-          let s = passes.staged in
-          let is : s.file ≡ file = subst (λ (o : Option Staged). IfSome o (λ s. s.file ≡ file)) passes.added.is named in
-          fills_new e ∙ lt_true limits.blobs (end_of kept + file.len)
-          (subst (λ (l : Limits). l.blobs < end_of kept + file.len) same_limits (subst (λ (f : FileRef). v.limits.blobs < end_of kept + f.len) is passes.passes))),
-    )
-      where
-        no_pair : HasPair bytes kept (content bytes file) file.digests → ⊥
-        no_pair pair = false≢true (sym e ∙ has_any bytes file kept pair)
 
-        is_fresh : (b : Bool) (s : Staged) → s.fresh ≡ b → staged ≡ Some s → IsTrue s.fresh
-        is_fresh true s f is = f
-        is_fresh false s f is = absurd (no_pair ((fresh s is).0 f))
+  module _ (whole : AreWhole bytes kept) (s : Staged) where
+    old : s.fresh ≡ false → All (Contains (kept_with kept s)) refs → Agrees (Some s)
+    old e all =
+        agrees_same (Some s)
+        (next_is ∙ none_new bytes kept refs (subst (λ (l : List FileRef). All (Contains l) refs) (ap (λ (b : Bool). cond b (kept ++ s.file ∷ []) kept) e) all))
+        (λ passes.
+        let same : s ≡ passes.staged = cc passes.added.is in
+        false≢true (sym e ∙ ap (λ (t : Staged). t.fresh) same ∙ passes.added.fresh))
 
-        passes_by : (o : Option Staged) → staged ≡ o → IsTrue (fills_blobs limits files next) → PassesBlobs v (references_of change.edits) staged
-        passes_by None none fills = absurd (false≢true (sym e ∙ kept_any bytes file kept (old none)))
-        passes_by (Some s) is fills =
-            let its : s.file ≡ file = subst (λ (o : Option Staged). IfSome o (λ s. s.file ≡ file)) is named in
-            record {
-              staged = s;
-              added = record { is = is; fresh = is_fresh s.fresh s refl is; named = (zero, omega arith, sym its) };
-              passes = subst (λ (l : Limits). l.blobs < end_of kept + s.file.len) (sym same_limits)
-                  (subst (λ (f : FileRef). limits.blobs < end_of kept + f.len) (sym its) (lt_from limits.blobs (end_of kept + file.len) (sym (fills_new e) ∙ fills)));
-            }
+    fresh_one : s.fresh ≡ true → All (Contains (kept_with kept s)) refs → IsFresh bytes kept s.file → length (content bytes s.file) ≡ s.file.len → Agrees (Some s)
+    fresh_one e all fresh long =
+        ⊎_elim
+        (λ none. agrees_same (Some s) (next_is ∙ none.0) (λ passes.
+        let same : s ≡ passes.staged = cc passes.added.is in
+        none.1 (subst (λ (t : Staged). Contains refs t.file) (sym same) passes.added.named)))
+        (λ some. agrees_new s e some.1 whole long (next_is ∙ some.0))
+        (adds bytes kept s.file fresh.new refs (subst (λ (l : List FileRef). All (Contains l) refs) (ap (λ (b : Bool). cond b (kept ++ s.file ∷ []) kept) e) all))
 
-    -- the limit is passed exactly where the store finds it passed
-    pub deploy_fills : IfSome staged (λ s. s.file ≡ file) → ((s : Staged) → staged ≡ Some s → (s.fresh ≡ false ↔ HasPair bytes kept (content bytes file) file.digests))
-        → (staged ≡ None → Contains kept file)
-        → IsTrue (fills_blobs limits files next) ↔ PassesBlobs v (references_of change.edits) staged
-    deploy_fills named fresh old = fills_by (list_any (same_file (file_in bytes file)) files) refl named fresh old
+    by_fresh : (b : Bool) → s.fresh ≡ b → All (Contains (kept_with kept s)) refs → (IsTrue s.fresh → IsFresh bytes kept s.file) → (IsTrue s.fresh → length (content bytes s.file) ≡ s.file.len) → Agrees (Some s)
+    by_fresh true e all fresh long = fresh_one e all (fresh e) (long e)
+    by_fresh false e all fresh long = old e all
 
-  -- a fetch names no content
-  module _ (moment : ℤ) (user : List ℕ) (key : Key) where
-    abbrev fetching : Change
-    fetching = record { moment = moment; user = user; edits = edits.Downloaded key ∷ [] }
+  long_of : (s : Staged) → IsTrue s.fresh → AreWhole bytes (kept_with kept s) → length (content bytes s.file) ≡ s.file.len
+  long_of s e whole =
+      All-contains (λ (file : FileRef). length (content bytes file) ≡ file.len) (kept ++ s.file ∷ []) s.file
+      (subst (λ (l : List FileRef). AreWhole bytes l) (ap (λ (b : Bool). cond b (kept ++ s.file ∷ []) kept) e) whole)
+      (Contains-append_right kept (s.file ∷ []) s.file (zero, omega arith, refl))
 
-    fetch_keeps : (apply (file_in bytes) fetching (holding_of bytes v)).kept ≡ files
-    unfolding apply
-    fetch_keeps = refl
-
-    pub fetch_fills : IsTrue (fills_blobs limits files (apply (file_in bytes) fetching (holding_of bytes v)).kept) ↔ PassesBlobs v (references_of fetching.edits) None
-    fetch_fills = (
-      (λ fills. absurd (false≢true (sym (ap (fills_blobs limits files) fetch_keeps ∙ fills_same limits files) ∙ fills))),
-      (λ passes. absurd (cc passes.added.is)),
-    )
+  pub fills_agree : (staged : Option Staged) → AreWhole bytes kept → All (Contains (kept_and kept staged)) refs → IsStaged bytes kept staged → AreWhole bytes (kept_and kept staged) → Agrees staged
+  fills_agree None whole all fresh long = agrees_same None (next_is ∙ none_new bytes kept refs all) (λ passes. absurd (cc passes.added.is))
+  fills_agree (Some s) whole all fresh long = by_fresh whole s s.fresh refl all fresh (λ e. long_of s e long)

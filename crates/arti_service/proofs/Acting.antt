@@ -28,7 +28,7 @@ pub stays : (s s' : State) (v : View) → LeavesDisk s s' → HoldsStore s v →
 stays s s' v disk holds = store_leaves s s' v disk holds
 
 -- at a moment of telling, in an open store
-telling_moment : (limits : Limits) (line : ℕ) (IsOne : List ℕ → Type 0) (reply : List ℕ) (s : State) (v : View) (before : Holding)
+pub telling_moment : (limits : Limits) (line : ℕ) (IsOne : List ℕ → Type 0) (reply : List ℕ) (s : State) (v : View) (before : Holding)
     → IsReady limits v → HoldsStore s v → IsOne reply
     → (c w : Bytes) → Telling s line reply c w → AtMoment limits line s.told (During IsOne before (stock_of s v).holding) c w
 telling_moment limits line IsOne reply s v before ready holds one c w here = record {

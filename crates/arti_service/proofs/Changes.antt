@@ -1,6 +1,7 @@
 -- The changes of deploys and fetches: how many bytes they have, and that they aren't refused.
-use Rattle.std.proofs.Common.{◌≡◌, ℕ, suc, ◌+◌, ℤ, Bool, true, false, cond, List, [], ◌∷◌, ◌++◌, length, refl, sym, ap, ◌∙◌, length-append}
-use Rattle.std.specs.Prelude.{Option, Some, None, is_some, not, ◌&&◌, ◌||◌, option_and_then}
+use Rattle.std.proofs.Common.{◌≡◌, ℕ, suc, ◌+◌, ℤ, Bool, true, false, cond, List, [], ◌∷◌, ◌++◌, length, refl, sym, ap, ◌∙◌, arith, length-append}
+use Rattle.std.specs.Prelude.{All, Contains, Option, Some, None, is_some, not, ◌&&◌, ◌||◌, option_and_then}
+use Rattle.std.proofs.lemmas.List.Elements.{All-cons}
 use Rattle.std.specs.Int.{w32, w64}
 use Rattle.std.proofs.lemmas.Bool.{false≢true}
 use Rattle.arti_rows.specs.Key.{Key}
@@ -129,3 +130,11 @@ fetch_accepted limits file_of moment user key h file local found =
     let items = h.repository.items in
     ap (λ (b : Bool). first_refusal (refused_if (not b) (NoRepo key.repo) (refused_if (not (has_file items key)) (NotFound key) None)) None) (local_is key local)
     ∙ ap (λ (b : Bool). first_refusal (refused_if false (NoRepo key.repo) (refused_if (not b) (NotFound key) None)) None) (found_file items key file found)
+
+-- ---- the contents that they name
+
+pub no_references : (kept : List FileRef) → All (Contains kept) []
+no_references kept = λ i d lt. absurd (omega (arith, lt))
+
+pub one_reference : (kept : List FileRef) (file : FileRef) → Contains kept file → All (Contains kept) (file ∷ [])
+one_reference kept file has = All-cons (Contains kept) file [] has (no_references kept)

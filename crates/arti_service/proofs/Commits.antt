@@ -29,7 +29,7 @@ use Rattle.arti_service.specs.Asks.{Tells}
 use Rattle.arti_service.specs.Acts.{Acts, ActsFor}
 use Rattle.arti_service.proofs.Stops.{tells_in, on_ok}
 use Rattle.arti_service.specs.CrashLaws.{image_stands}
-use Rattle.arti_service.proofs.Acting.{leaves_stock, stays, telling_acts, acts_after, standing_moment}
+use Rattle.arti_service.proofs.Acting.{leaves_stock, stays, telling_moment, telling_acts, acts_after, standing_moment}
 use Rattle.arti_service.proofs.Accepting.{accept_some, accept_blobs, accept_journal, passes_true, passes_false}
 
 -- no memory was found before anything was done
@@ -64,6 +64,19 @@ stops_front (Ok x) IsOne reply told told' one some front = tt
 stops_front (Err stop.Disk) IsOne reply told told' one some front = (reply, one, front)
 stops_front (Err stop.Tell) IsOne reply told told' one some front = (reply, one, front)
 stops_front (Err stop.Memory) IsOne reply told told' one some front = absurd (some refl)
+
+-- a reply is told in blocks in an open store
+pub front_acts : (limits : Limits) (line : ℕ) (reply : List ℕ) (result : Result (Unit {0}) Stop) (s s1 : State) (v : View)
+    → IsReady limits v → HoldsStore s v → LeavesDisk s s1 → (result ≡ Err stop.Memory → ⊥)
+    → OnOk result (s1.told line ≡ s.told line ++ reply) → OnErr result (TellsFront reply (s.told line) (s1.told line)) → Passes s s1 (Telling s line reply)
+    → Acts limits line (λ r. r ≡ reply) (stock_of s v) result s s1 v v
+front_acts limits line reply result s s1 v ready holds disk some told front time = record {
+  told = tells_in result (λ r. r ≡ reply) reply (s.told line) (s1.told line) refl told;
+  stock = on_ok result (stock_of s1 v ≡ stock_of s v) (leaves_stock s s1 v disk);
+  holds = on_ok result (HoldsStore s1 v) (stays s s1 v disk holds);
+  stops = stops_front result (λ r. r ≡ reply) reply (s.told line) (s1.told line) refl some front;
+  moments = passes_map s s1 (Telling s line reply) _ (telling_moment limits line (λ r. r ≡ reply) reply s v (stock_of s v).holding ready holds refl) time;
+}
 
 -- at a moment of a commit
 commit_moment : (limits : Limits) (line : ℕ) (answer : Answer) (s : State) (before after : Holding) (used longer : ℕ) → answer.stock.holding ≡ after

@@ -1,16 +1,17 @@
-mod Steps
 mod Pieces
 mod Talks
 mod Stops
 mod Thin
 mod Accepting
+mod Asking
 mod Changes
 mod Commits
 mod Deploying
+mod Doing
+mod Preparing
 mod Blocks
 mod Wholes
 mod Staging
-mod Asking
 mod Memory
 pub mod Acting
 pub mod Crashes

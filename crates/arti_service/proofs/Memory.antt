@@ -6,7 +6,7 @@ use Rattle.json.specs.Print.{escape_byte}
 use Rattle.arti_model.specs.Replies.{head_bytes}
 use Rattle.arti_model.specs.Bodies.{error_body, json_kind}
 use Rattle.arti_model.specs.Run.{memory_reply}
-use Rattle.arti_service.specs.declared.queries.TheConstants.{MEMORY_REPLY}
+use Rattle.arti_service.specs.declared.telling.TheConstants.{MEMORY_REPLY}
 
 abbrev text : List ℕ
 text = codes "{\"errors\":[{\"status\":500,\"message\":\"Memory\"}]}"

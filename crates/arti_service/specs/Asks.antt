@@ -1,45 +1,43 @@
--- What a request asks, and what that is answered.
-use Rattle.std.specs.Prelude.{◌≡◌, ◌⊎◌, ℕ, ℤ, Bool, true, false, IsTrue, List, ◌++◌}
-use Rattle.arti_rows.specs.declared.limits.Limits.{Limits}
-use Rattle.arti_model.specs.Requests.{Request, FieldText}
+-- What the head of a request asks, in the words of the model.
+use Rattle.std.specs.Prelude.{◌≡◌, ◌⊎◌, IsTrue, List, ℕ, ◌++◌, Result, Ok, Err}
+use Rattle.arti_rows.specs.declared.refusal.Refusal.{Refusal}
+use Rattle.arti_model.specs.Requests.{Request}
 use Rattle.arti_model.specs.Store.{local_key}
-use Rattle.arti_model.specs.Stock.{Stock, Answer}
-use Rattle.arti_model.specs.Step.{deploy, fetch, query, not_yet, head_not_yet, step}
+use Rattle.arti_model.specs.Stock.{Answer}
+use Rattle.arti_model.specs.Decide as model
 use Rattle.arti_model.specs.Run.{is_reading, memory_reply}
-use Rattle.arti_service.specs.declared.answering.Asked.{Asked}
-use Rattle.arti_service.specs.declared.answering.Asked.TheVariants.{Deploy, Fetch, Query, NotBuilt, HeadNotBuilt}
+use Rattle.arti_service.specs.declared.ask.Asked.{Asked}
+use Rattle.arti_service.specs.declared.ask.Asked.TheVariants.{Refused, Deploy, DeployFound, Fetch, Query}
 
--- the answer to what is asked
-unfoldable pub answer_to : Asked → Limits → Stock → List FieldText → List ℕ → ℤ → Answer
-answer_to (Deploy key) limits s fields body moment = deploy limits s moment key fields body
-answer_to (Fetch key) limits s fields body moment = fetch limits s moment key
-answer_to Query limits s fields body moment = query limits s body
-answer_to NotBuilt limits s fields body moment = not_yet s
-answer_to HeadNotBuilt limits s fields body moment = head_not_yet s
-
--- whether it only reads
-unfoldable pub only_reads : Asked → Bool
-only_reads (Deploy key) = false
-only_reads (Fetch key) = false
-only_reads Query = true
-only_reads NotBuilt = false
-only_reads HeadNotBuilt = false
-
--- whatever the store and the body are, the request's step is the answer to this; what only reads is asked by a request that is known to
-pub record MeansFor (q : Request) (asked : Asked) : Type 0 where
-  pub step_is : (limits : Limits) (s : Stock) (body : List ℕ) (moment : ℤ)
-      → step limits s (record { head = q; body = body }) moment ≡ answer_to asked limits s q.fields body moment
-  pub reads : only_reads asked ≡ true → IsTrue (is_reading q)
+abbrev pub asked_is : Asked → Result model.Ask Refusal
+asked_is (Refused why) = Err why
+asked_is (Deploy key wanted) = Ok (model.Deploy key wanted)
+asked_is (DeployFound key wanted) = Ok (model.DeployFound key wanted)
+asked_is (Fetch key) = Ok (model.Fetch key)
+asked_is Query = Ok model.Query
 
 -- the item that it names, if it names one, is the local repository's
 abbrev pub IsLocal : Asked → Type 0
-IsLocal (Deploy key) = key.repo ≡ local_key
+IsLocal (Deploy key wanted) = key.repo ≡ local_key
+IsLocal (DeployFound key wanted) = key.repo ≡ local_key
 IsLocal (Fetch key) = key.repo ≡ local_key
 IsLocal asked = Unit {0}
 
--- a reply to what is asked: that answer's, or that of one that only reads and found no memory
+-- it has no body, or its body is passed over
+abbrev pub HasNoBody : Asked → Type 0
+HasNoBody (Deploy key wanted) = ⊥
+HasNoBody Query = ⊥
+HasNoBody asked = Unit {0}
+
+-- a query is asked by a request that is known to read alone
+abbrev pub IsKnownToRead : Asked → Request → Type 0
+IsKnownToRead Query q = IsTrue (is_reading q)
+IsKnownToRead asked q = Unit {0}
+
+-- a reply to what is asked: the answer's, or that of a query that found no memory
 abbrev pub MayReply : Asked → Answer → List ℕ → Type 0
-MayReply asked answer reply = (reply ≡ answer.reply) ⊎ ((only_reads asked ≡ true) × (reply ≡ memory_reply))
+MayReply Query answer reply = (reply ≡ answer.reply) ⊎ (reply ≡ memory_reply)
+MayReply asked answer reply = reply ≡ answer.reply
 
 -- a reply was told
 abbrev pub Tells : (List ℕ → Type 0) → List ℕ → List ℕ → Type 0

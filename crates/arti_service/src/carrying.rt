@@ -3,42 +3,32 @@ ghost use Rattle.std.specs.Prelude.{◌≡◌, ◌≢◌, ◌↔◌, ◌++◌, �
 ghost use Rattle.arti_ground.specs.State.{LeavesDisk, Passes, Rose};
 ghost use Rattle.arti_rows.specs.declared.rows.FileRef.{FileRef};
 ghost use Rattle.arti_blobs.specs.Contents.{content, HasPair};
-ghost use Rattle.arti_codec.specs.ChangeBytes.{HasBytes};
-ghost use Rattle.arti_model.specs.Apply.{refusal, apply};
-ghost use Rattle.arti_model.specs.Stock.{accept, fills_blobs};
+ghost use Rattle.arti_model.specs.Stock.{accept};
 ghost use Rattle.arti_model.specs.Step.{digests_of};
 ghost use Rattle.arti_store.specs.Items.{file_in};
-ghost use Rattle.arti_store.specs.Changes.{references_of};
-ghost use Rattle.arti_store.specs.Store.{holding_of, HoldsStore, Standing, kept_and, MayKeep, IsStaged, PassesBlobs};
+ghost use Rattle.arti_store.specs.Store.{HoldsStore, Standing, kept_and, MayKeep, IsStaged};
 ghost use Rattle.arti_service.specs.Cuts.{StopsTelling, TellsFront};
 ghost use Rattle.arti_service.specs.Moments.{Telling};
 ghost use Rattle.arti_service.specs.Stocks.{stock_of, IsReady};
 ghost use Rattle.arti_service.specs.Acts.{ActsFor};
 ghost use Rattle.arti_service.specs.Parts.{rest_of};
 
+use crate::act::{Act, prepare, refusal_bytes};
 use crate::answering::Stop;
-use crate::replies;
-use crate::telling::tell;
+use crate::decision::Decision;
+use crate::telling::{tell, tell_parts};
 use arti_blobs::{StageFault, Staged};
 use arti_ground::Ground;
-use arti_rows::{Change, FileRef, Limits, Which};
+use arti_rows::{Change, FileRef, Refusal, Which};
 use arti_store::{CommitFault, ContentFault, Store};
-use std::alloc::{AllocError, Global};
-
-/// How many bytes of a content are read at once.
-const BLOCK: usize = 65536;
+use std::alloc::Global;
 
 /// Stages a content whole.
-pub fn stage<G: Ground>(
-    store: &mut Store,
-    ground: &mut G,
-    limits: &Limits,
-    body: &[u8],
-) -> Result<Staged, Stop>
-    requires ready { IsReady limits.now store.old }
+pub fn stage<G: Ground>(store: &mut Store, ground: &mut G, body: &[u8]) -> Result<Staged, Stop>
+    requires ready { IsReady store.old.limits store.old }
     requires holds { G.tells → HoldsStore (G.state ground.old) store.old }
     requires short { length body.now ≤ 67108864 }
-    ensures ready { IfOk result (λ s. IsReady limits.now store.new) }
+    ensures ready { IfOk result (λ s. IsReady store.old.limits store.new) }
     ensures rows { IfOk result (λ s. (store.new.rows ≡ store.old.rows) × (store.new.contents.kept ≡ store.old.contents.kept)) }
     ensures length { IfOk result (λ s. s.file.len ≡ length body.now) }
     ensures digests { IfOk result (λ s. s.file.digests ≡ digests_of body.now) }
@@ -56,7 +46,6 @@ pub fn stage<G: Ground>(
     ensures disk_quiet { result ≢ Err Stop.Disk → G.disk_faults ground.new ≡ G.disk_faults ground.old }
     ensures tell_faults { G.tell_faults ground.new ≡ G.tell_faults ground.old }
 {
-    let _limits = limits;
     store.stage_begin(&*ground);
     match store.stage_piece(ground, body, body.len() as u64) {
         Ok(()) => {}
@@ -147,7 +136,6 @@ fn tell_reply<G: Ground>(
 
 // Tells what there is no room for.
 fn tell_full<G: Ground>(alloc: Global, ground: &mut G, line: u32, which: Which) -> Result<(), Stop>
-    requires { (which ≡ Which.Blobs) ⊎ (which ≡ Which.Journal) }
     ensures told { G.tells → OnOk result ((G.state ground.new).told line ≡ (G.state ground.old).told line ++ full_reply which) }
     ensures stops { G.tells → IfErr result (λ stop. StopsTelling stop (full_reply which) ((G.state ground.old).told line) ((G.state ground.new).told line)) }
     ensures time { G.tells → Passes (G.state ground.old) (G.state ground.new) (Telling (G.state ground.old) line (full_reply which)) }
@@ -157,15 +145,11 @@ fn tell_full<G: Ground>(alloc: Global, ground: &mut G, line: u32, which: Which) 
     ensures disk_faults { G.disk_faults ground.new ≡ G.disk_faults ground.old }
     ensures disk { G.tells → LeavesDisk (G.state ground.old) (G.state ground.new) }
 {
-    let word = match which {
-        Which::Blobs => "blobs",
-        _ => "journal",
-    };
-    let reply = replies::refusal_with(alloc, 507, "Full: ", word)?;
+    let reply = refusal_bytes(alloc, false, &Refusal::Full(which))?;
     tell(ground, line, &reply)
 }
 
-ghost use Rattle.std.specs.Prelude.{◌⊎◌, ◌<◌};
+ghost use Rattle.std.specs.Prelude.{◌<◌};
 ghost use Rattle.arti_service.specs.Parts.{full_reply};
 ghost use Rattle.arti_service.specs.Outcomes.{EndedSo};
 
@@ -194,42 +178,37 @@ fn outcome_of(ended: Result<(), CommitFault>) -> Outcome
     }
 }
 
-/// Commits a change and tells the reply, behind whose head a kept content may come; or tells what there is no room for.
-pub fn carry_out<G: Ground>(
+// Commits a change and tells the reply, behind whose head a kept content may come; or tells what there is no room for.
+fn commit_and_tell<G: Ground>(
     alloc: Global,
     store: &mut Store,
     ground: &mut G,
     line: u32,
-    limits: &Limits,
     change: Change,
     staged: Option<Staged>,
     head: &[u8],
     file: Option<&FileRef>,
+    buffer: &mut [u8],
 ) -> Result<(), Stop>
-    requires ready { IsReady limits.now store.old }
+    requires ready { IsReady store.old.limits store.old }
     requires holds { G.tells → HoldsStore (G.state ground.old) store.old }
-    requires accepted { G.tells → refusal limits.now (file_in ((G.state ground.old).files 3)) change (holding_of ((G.state ground.old).files 3) store.old) ≡ None }
-    requires bytes { HasBytes change }
-    requires references { All (Contains (kept_and store.old.contents.kept staged)) (references_of change.edits) }
+    requires may { MayMake store.old staged change }
     requires keep { MayKeep store.old.contents staged }
     requires staged { G.tells → IsStaged ((G.state ground.old).files 3) store.old.contents.kept staged }
-    requires fills { G.tells → IsTrue (fills_blobs limits.now (holding_of ((G.state ground.old).files 3) store.old).kept
-        (apply (file_in ((G.state ground.old).files 3)) change (holding_of ((G.state ground.old).files 3) store.old)).kept)
-        ↔ PassesBlobs store.old (references_of change.edits) staged }
+    requires whole { G.tells → AreWhole ((G.state ground.old).files 3) (kept_and store.old.contents.kept staged) }
     requires file { IfSome file (λ f. Contains store.old.contents.kept f.now) }
-    ensures acts { G.tells → ActsFor limits.now line
-        (accept limits.now (stock_of (G.state ground.old) store.old) (file_in ((G.state ground.old).files 3)) change (head.now ++ rest_of ((G.state ground.old).files 3) (option_copied file.entry)))
+    requires room { IfSome file (λ f. 0 < length buffer.old) }
+    ensures acts { G.tells → ActsFor store.old.limits line
+        (accept store.old.limits (stock_of (G.state ground.old) store.old) (file_in ((G.state ground.old).files 3)) change (head.now ++ rest_of ((G.state ground.old).files 3) (option_copied file.entry)))
         result (G.state ground.old) (G.state ground.new) store.old store.new }
-    ensures ready { OnOk result (IsReady limits.now store.new) }
+    ensures ready { OnOk result (IsReady store.old.limits store.new) }
     ensures tell_fault { IsErrOf result Stop.Tell → Rose (G.tell_faults ground.old line) (G.tell_faults ground.new line) }
     ensures quiet { result ≢ Err Stop.Tell → G.tell_faults ground.new ≡ G.tell_faults ground.old }
     ensures disk_fault { IsErrOf result Stop.Disk → Rose (G.disk_faults ground.old) (G.disk_faults ground.new) }
     ensures disk_quiet { result ≢ Err Stop.Disk → G.disk_faults ground.new ≡ G.disk_faults ground.old }
 {
-    let _limits = limits;
-    let mut buf = buffer(alloc, file.is_some())?;
     match outcome_of(store.commit(alloc, ground, change, staged)) {
-        Outcome::Done => tell_reply(store, ground, line, head, file, &mut buf),
+        Outcome::Done => tell_reply(store, ground, line, head, file, buffer),
         Outcome::NoRoomForContents => tell_full(alloc, ground, line, Which::Blobs),
         Outcome::NoRoomInJournal => tell_full(alloc, ground, line, Which::Journal),
         Outcome::Device => Err(Stop::Disk),
@@ -239,12 +218,87 @@ pub fn carry_out<G: Ground>(
 
 ghost use Rattle.std.specs.Option.{option_copied};
 
-// A buffer for blocks, where one is needed.
-fn buffer(alloc: Global, needed: bool) -> Result<Vec<u8>, AllocError>
-    ensures { IsTrue needed → IfOk result (λ v. 0 < length v.items) }
+/// Does what is left to do. A change is committed before a byte of its reply is told, so that no crash takes back what was told.
+pub fn carry_out<G: Ground>(
+    alloc: Global,
+    store: &mut Store,
+    ground: &mut G,
+    line: u32,
+    staged: Option<Staged>,
+    act: Act,
+) -> Result<(), Stop>
+    requires ready { IsReady store.old.limits store.old }
+    requires holds { G.tells → HoldsStore (G.state ground.old) store.old }
+    requires may { MayCarryOut store.old staged act }
+    requires keep { MayKeep store.old.contents staged }
+    requires staged { G.tells → IsStaged ((G.state ground.old).files 3) store.old.contents.kept staged }
+    requires whole { G.tells → AreWhole ((G.state ground.old).files 3) (kept_and store.old.contents.kept staged) }
+    ensures acts { G.tells → ActsFor store.old.limits line
+        (done_by ((G.state ground.old).files 3) store.old.limits (stock_of (G.state ground.old) store.old) act)
+        result (G.state ground.old) (G.state ground.new) store.old store.new }
+    ensures ready { OnOk result (IsReady store.old.limits store.new) }
+    ensures no_memory { TellsOnly act → result ≢ Err Stop.Memory }
+    ensures tell_fault { IsErrOf result Stop.Tell → Rose (G.tell_faults ground.old line) (G.tell_faults ground.new line) }
+    ensures quiet { result ≢ Err Stop.Tell → G.tell_faults ground.new ≡ G.tell_faults ground.old }
+    ensures disk_fault { IsErrOf result Stop.Disk → Rose (G.disk_faults ground.old) (G.disk_faults ground.new) }
+    ensures disk_quiet { result ≢ Err Stop.Disk → G.disk_faults ground.new ≡ G.disk_faults ground.old }
 {
-    if needed {
-        return vec![in alloc; 0u8; BLOCK];
+    match act {
+        Act::Tell { head, body } => tell_parts(ground, line, &head, &body),
+        Act::Send {
+            head,
+            file,
+            mut buffer,
+        } => tell_reply(store, ground, line, &head, Some(&file), &mut buffer),
+        Act::Commit {
+            change,
+            head,
+            file,
+            mut buffer,
+        } => commit_and_tell(
+            alloc,
+            store,
+            ground,
+            line,
+            change,
+            staged,
+            &head,
+            file.as_ref(),
+            &mut buffer,
+        ),
     }
-    Ok(Vec::new(alloc))
 }
+
+ghost use Rattle.arti_service.specs.Decisions.{AreWhole, MayMake, MayDo, decision_in};
+ghost use Rattle.arti_service.specs.Acts.{done_by, MayCarryOut, TellsOnly};
+
+/// Does what was decided, with what was staged for it.
+pub fn perform<G: Ground>(
+    alloc: Global,
+    store: &mut Store,
+    ground: &mut G,
+    line: u32,
+    alone: bool,
+    staged: Option<Staged>,
+    decision: Decision,
+) -> Result<(), Stop>
+    requires ready { IsReady store.old.limits store.old }
+    requires holds { G.tells → HoldsStore (G.state ground.old) store.old }
+    requires may { MayDo store.old staged decision }
+    requires keep { MayKeep store.old.contents staged }
+    requires staged { G.tells → IsStaged ((G.state ground.old).files 3) store.old.contents.kept staged }
+    requires whole { G.tells → AreWhole ((G.state ground.old).files 3) (kept_and store.old.contents.kept staged) }
+    ensures acts { G.tells → ActsFor store.old.limits line
+        (perform store.old.limits (stock_of (G.state ground.old) store.old) alone (decision_in ((G.state ground.old).files 3) decision))
+        result (G.state ground.old) (G.state ground.new) store.old store.new }
+    ensures ready { OnOk result (IsReady store.old.limits store.new) }
+    ensures tell_fault { IsErrOf result Stop.Tell → Rose (G.tell_faults ground.old line) (G.tell_faults ground.new line) }
+    ensures quiet { result ≢ Err Stop.Tell → G.tell_faults ground.new ≡ G.tell_faults ground.old }
+    ensures disk_fault { IsErrOf result Stop.Disk → Rose (G.disk_faults ground.old) (G.disk_faults ground.new) }
+    ensures disk_quiet { result ≢ Err Stop.Disk → G.disk_faults ground.new ≡ G.disk_faults ground.old }
+{
+    let act = prepare(alloc, alone, decision)?;
+    carry_out(alloc, store, ground, line, staged, act)
+}
+
+ghost use Rattle.arti_model.specs.Perform.{perform};

@@ -1,13 +1,18 @@
 //! Requests are answered, one after the other.
 #![tactic(auto)]
 
+mod act;
 mod answering;
+mod ask;
 mod bytes;
 mod carrying;
 mod conversation;
-mod deploys;
+mod decision;
+mod deploy;
+mod fetch;
 mod looking;
-mod queries;
+mod query;
+mod refusals;
 mod replies;
 mod telling;
 

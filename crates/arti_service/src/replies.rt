@@ -1,9 +1,8 @@
 // The bytes of replies.
-ghost use Rattle.std.specs.Prelude.{◌≡◌, ◌+◌, ◌<◌, ◌++◌, ◌∷◌, string_bytes, IfOk, OnOk, Some};
+ghost use Rattle.std.specs.Prelude.{◌≡◌, ◌+◌, ◌<◌, ◌++◌, ◌∷◌, string_bytes, IfOk, OnOk};
 ghost use Rattle.arti_rows.specs.Key.{whole_of};
-ghost use Rattle.arti_model.specs.Replies.{head_bytes, IsReplyStatus};
-ghost use Rattle.arti_model.specs.Bodies.{text_member, text_members, deployed_members, deployed_body, digest_members, error_body, json_reply, refused, refused_head, content_kind};
-ghost use Rattle.arti_model.specs.Step.{not_found};
+ghost use Rattle.arti_model.specs.Replies.{IsReplyStatus};
+ghost use Rattle.arti_model.specs.Bodies.{text_member, text_members, deployed_members, deployed_body, digest_members, error_body, json_reply, refused, refused_head};
 
 use arti_json::{write_number, write_text};
 use arti_rows::{Digests, ItemKey, Moment};
@@ -131,37 +130,4 @@ pub fn refusal_head(alloc: Global, status: u16, message: &str) -> Result<Vec<u8>
 {
     let body = error(alloc, status, message)?;
     response_head(alloc, status, "application/json", None, body.len() as u64)
-}
-
-/// A refusal whose message is of two parts.
-pub fn refusal_with(
-    alloc: Global,
-    status: u16,
-    front: &str,
-    word: &str,
-) -> Result<Vec<u8>, AllocError>
-    requires { IsReplyStatus status }
-    ensures { IfOk result (λ v. v.items ≡ refused status (front.now ++ word.now)) }
-{
-    let mut message = String::from_str(alloc, front)?;
-    message.push_str(word)?;
-    refusal(alloc, status, message.as_str())
-}
-
-/// The refusal of an item that isn't there.
-pub fn missing_item(alloc: Global, key: &ItemKey) -> Result<Vec<u8>, AllocError>
-    ensures { IfOk result (λ v. v.items ≡ not_found key.now) }
-{
-    let path = rooted(alloc, key)?;
-    let mut message = String::from_str(alloc, "NotFound: ")?;
-    message.push_str(key.repo.as_str())?;
-    message.push_str(path.as_str())?;
-    refusal(alloc, 404, message.as_str())
-}
-
-/// The head of a file's reply.
-pub fn content_head(alloc: Global, digests: &Digests, len: u64) -> Result<Vec<u8>, AllocError>
-    ensures { IfOk result (λ v. v.items ≡ head_bytes 200 content_kind (Some digests.now) len) }
-{
-    response_head(alloc, 200, "application/octet-stream", Some(digests), len)
 }

@@ -6,8 +6,11 @@ ghost use Rattle.arti_service.specs.Cuts.{StopsTelling};
 ghost use Rattle.arti_service.specs.Moments.{Telling};
 
 use crate::answering::Stop;
-use crate::queries::MEMORY_REPLY;
 use arti_ground::{Failed, Ground};
+
+/// The whole reply to a query that found too little memory; it needs none.
+pub const MEMORY_REPLY: [u8; 136] =
+    *b"HTTP/1.1 500 Internal Server Error\r\nContent-Type: application/json\r\nContent-Length: 46\r\n\r\n{\"errors\":[{\"status\":500,\"message\":\"Memory\"}]}";
 
 /// Tells a reply.
 pub fn tell<G: Ground>(ground: &mut G, line: u32, reply: &[u8]) -> Result<(), Stop>
@@ -27,7 +30,7 @@ pub fn tell<G: Ground>(ground: &mut G, line: u32, reply: &[u8]) -> Result<(), St
     }
 }
 
-/// Tells the two parts of one reply.
+/// Tells the two parts of one reply, in one write where the second is empty.
 pub fn tell_parts<G: Ground>(
     ground: &mut G,
     line: u32,
@@ -44,6 +47,9 @@ pub fn tell_parts<G: Ground>(
     ensures disk_faults { G.disk_faults ground.new ≡ G.disk_faults ground.old }
     ensures disk { G.tells → LeavesDisk (G.state ground.old) (G.state ground.new) }
 {
+    if second.is_empty() {
+        return tell(ground, line, first);
+    }
     match tell(ground, line, first) {
         Err(stop) => Err(stop),
         Ok(()) => tell(ground, line, second),

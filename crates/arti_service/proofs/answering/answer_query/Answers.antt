@@ -1,37 +1,38 @@
-use Rattle.std.proofs.Common.{◌≡◌, ◌++◌, List, ℕ, inl, inr, refl, subst, rules}
-use Rattle.std.specs.Prelude.{IfErr, OnOk}
-use Rattle.arti_ground.specs.State.{Passes}
-use Rattle.arti_model.specs.Step.{query}
+use Rattle.std.proofs.Common.{◌≡◌, ◌⊎◌, inl, inr, refl, sym, subst}
+use Rattle.arti_model.specs.Decide as model
+use Rattle.arti_model.specs.Perform.{perform}
 use Rattle.arti_model.specs.Run.{memory_reply}
+use Rattle.arti_model.specs.Stock.{Stock}
 use Rattle.arti_store.specs.ImageLaws.{contents_whole}
-use Rattle.arti_service.specs.Asks.{MayReply, only_reads}
-use Rattle.arti_service.specs.declared.answering.Asked.TheVariants as asked
-use Rattle.arti_service.specs.Cuts.{StopsTelling}
-use Rattle.arti_service.specs.Moments.{Telling}
+use Rattle.arti_store.specs.Store.{holding_of}
+use Rattle.arti_service.specs.Acts.{Acts, done_by}
+use Rattle.arti_service.specs.Decisions.{decided_in}
 use Rattle.arti_service.specs.Stocks.{stock_of}
-use Rattle.arti_service.proofs.Acting.{telling_acts}
-use Rattle.arti_service.proofs.Wholes.{rows_whole}
+use Rattle.arti_service.proofs.Acting.{acts_more, telling_acts}
+use Rattle.arti_service.proofs.Deploying.{acts_same}
+use Rattle.arti_service.proofs.Doing.{query_stays}
 use Rattle.arti_service.proofs.answering.answer_query.Goals as goal
 
+pub carry_out-requires-clause-whole : goal.carry_out-requires-clause-whole
+carry_out-requires-clause-whole g c = λ gt. contents_whole (g.G.Ground.state c.args.ground.now) c.args.store.now (c.requires.holds gt c.requires.ready.still_open)
+
 pub returns-in-Ok-clause-acts : goal.returns-in-Ok-clause-acts
-returns-in-Ok-clause-acts g c = λ gt.
-    let state = g.G.Ground.state in
-    let s = state c.args.ground.now in
-    let end = state c.tell_parts.new.ground in
+returns-in-Ok-clause-acts g c = λ gt sent moment.
+    let x = g.G.Ground.state c.args.ground.now in
+    let end = g.G.Ground.state c.carry_out.new.ground in
     let v = c.args.store.now in
-    let answer = query c.args.limits.now (stock_of s v) c.args.body.now in
-    let kept = contents_whole s v (c.requires.holds gt c.requires.ready.still_open) in
-    let whole = c.in-Ok.ensures (stock_of s v) (s.files 3) refl (rows_whole (s.files 3) v.contents.kept kept v.rows c.items-files_are_kept.ensures.files) in
-    let text : c.deref.result.now ++ c.deref-in-Ok.result.now ≡ answer.reply = search rules in
-    telling_acts c.args.limits.now c.args.line (MayReply asked.Query answer) answer.reply _ _ _ v c.requires.ready (c.requires.holds gt) (inl refl)
-    (c.tell_parts.ensures.disk gt)
-    (subst (λ (l : List ℕ). OnOk c.tell_parts.result (end.told c.args.line ≡ s.told c.args.line ++ l)) text (c.tell_parts.ensures.told gt))
-    (subst (λ (l : List ℕ). IfErr c.tell_parts.result (λ stop. StopsTelling stop l (s.told c.args.line) (end.told c.args.line))) text (c.tell_parts.ensures.stops gt))
-    (subst (λ (l : List ℕ). Passes s end (Telling s c.args.line l)) text (c.tell_parts.ensures.time gt))
+    let answer = perform v.limits (stock_of x v) c.args.alone (decided_in (x.files 3) v model.Query c.args.body.now sent moment) in
+    acts_more v.limits c.args.line (λ r. r ≡ answer.reply) (λ r. (r ≡ answer.reply) ⊎ (r ≡ memory_reply)) answer.stock answer.stock c.carry_out.result x end v c.carry_out.new.store (λ r is. inl is) refl
+    (acts_same v.limits c.args.line (done_by (x.files 3) v.limits (stock_of x v) c.in-Ok.act) answer c.carry_out.result x end v c.carry_out.new.store
+    (c.in-Ok.ensures.done (x.files 3) v.limits (stock_of x v) sent moment (contents_whole x v (c.requires.holds gt c.requires.ready.still_open))) (c.carry_out.ensures.acts gt))
 
 pub returns-in-Err-clause-acts : goal.returns-in-Err-clause-acts
-unfolding only_reads
-returns-in-Err-clause-acts g c = λ gt.
-    let answer = query c.args.limits.now (stock_of (g.G.Ground.state c.args.ground.now) c.args.store.now) c.args.body.now in
-    telling_acts c.args.limits.now c.args.line (MayReply asked.Query answer) memory_reply _ _ _ c.args.store.now c.requires.ready (c.requires.holds gt) (inr (refl, refl))
-    (c.tell_memory.ensures.disk gt) (c.tell_memory.ensures.told gt) (c.tell_memory.ensures.stops gt) (c.tell_memory.ensures.time gt)
+returns-in-Err-clause-acts g c = λ gt sent moment.
+    let x = g.G.Ground.state c.args.ground.now in
+    let end = g.G.Ground.state c.tell_memory.new.ground in
+    let v = c.args.store.now in
+    let answer = perform v.limits (stock_of x v) c.args.alone (decided_in (x.files 3) v model.Query c.args.body.now sent moment) in
+    subst (λ (s : Stock). Acts v.limits c.args.line (λ r. (r ≡ answer.reply) ⊎ (r ≡ memory_reply)) s c.tell_memory.result x end v v)
+    (sym (query_stays v.limits (stock_of x v) c.args.alone (holding_of (x.files 3) v).repository c.args.body.now))
+    (telling_acts v.limits c.args.line (λ r. (r ≡ answer.reply) ⊎ (r ≡ memory_reply)) memory_reply c.tell_memory.result x end v c.requires.ready (c.requires.holds gt) (inr refl)
+    (c.tell_memory.ensures.disk gt) (c.tell_memory.ensures.told gt) (c.tell_memory.ensures.stops gt) (c.tell_memory.ensures.time gt))

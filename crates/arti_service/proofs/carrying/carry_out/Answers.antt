@@ -1,107 +1,56 @@
-use Rattle.std.proofs.Common.{◌≡◌, inl, inr, ⊎_elim, ◌++◌, ℕ, List, refl, sym, ap, ◌∙◌, subst}
-use Rattle.std.specs.Prelude.{OnOk, OnErr, IfErr}
+use Rattle.std.proofs.Common.{◌≡◌, ◌++◌, ℕ, List, refl, sym, ap, subst}
+use Rattle.std.specs.Prelude.{OnOk, OnErr, IfErr, Option}
 use Rattle.std.specs.Option.{option_copied}
-use Rattle.arti_service.specs.Moments.{Telling}
-use Rattle.arti_service.specs.Cuts.{TellsFront, StopsTelling}
-use Rattle.arti_ground.specs.State.{Passes, LeavesDisk}
-use Rattle.arti_rows.specs.declared.refusal.Which.TheVariants as which
-use Rattle.arti_codec.specs.ChangeBytes as codec
+use Rattle.arti_rows.specs.declared.rows.FileRef.{FileRef}
+use Rattle.arti_ground.specs.State.{Passes}
+use Rattle.arti_blobs.specs.Contents.{content}
+use Rattle.arti_model.specs.Stock.{accept}
 use Rattle.arti_store.specs.Items.{file_in}
 use Rattle.arti_store.specs.Store.{View}
-use Rattle.arti_store.specs.declared.fault.CommitFault.TheVariants as fault
-use Rattle.arti_model.specs.Stock.{accept}
+use Rattle.arti_service.specs.declared.act.Act.{Act}
+use Rattle.arti_service.specs.Acts.{ActsFor, done_by}
+use Rattle.arti_service.specs.Cuts.{StopsTelling, TellsFront}
+use Rattle.arti_service.specs.Moments.{Telling}
+use Rattle.arti_service.specs.Parts.{rest_of}
 use Rattle.arti_service.specs.Stocks.{stock_of}
-use Rattle.arti_service.specs.Acts.{ActsFor}
-use Rattle.arti_service.specs.Parts.{rest_of, full_reply}
-use Rattle.arti_service.proofs.Commits.{committed_acts, device_acts, memory_acts, still_acts, full_acts, other_fault, other_ok, committing, ended, journal_ended, err_same, ok_same}
+use Rattle.arti_service.proofs.Acting.{telling_acts}
+use Rattle.arti_service.proofs.Commits.{front_acts}
 use Rattle.arti_service.proofs.carrying.carry_out.Goals as goal
 
-pub returns-in-NoRoomForContents-clause-acts : goal.returns-in-NoRoomForContents-clause-acts
-returns-in-NoRoomForContents-clause-acts g c = λ gt.
-    let e = c.commit.ensures in
-    let is = ended c.outcome_of.result _ _ c.in-NoRoomForContents.is c.outcome_of.ensures in
-    let same = err_same c.commit.result _ is e.not_written (λ q. cc q) (λ q. cc q) in
-    let kept = err_same c.commit.result _ is e.unchanged (λ q. cc q) (λ q. cc q) in
-    let state = g.G.Ground.state in
-    let end = state c.tell_full.new.ground in
-    subst (λ (x : View). ActsFor c.args.limits.now c.args.line
-    (accept c.args.limits.now (stock_of (state c.args.ground.now) c.args.store.now) (file_in ((state c.args.ground.now).files 3)) c.args.change (c.args.head.now ++ rest_of ((state c.args.ground.now).files 3) (option_copied c.args.file)))
-    c.tell_full.result (state c.args.ground.now) end c.args.store.now x) (sym kept)
-    (full_acts c.args.limits.now c.args.line (state c.args.ground.now) c.args.store.now c.args.change c.args.staged _ c.requires.ready (c.requires.fills gt)
-    which.Blobs c.tell_full.result _ (c.requires.holds gt) (inl refl)
-    (λ b. (e.full_blobs.0 is).1)
-    (λ j. absurd (cc j))
-    (subst (λ x. LeavesDisk (state x) end) same (c.tell_full.ensures.disk gt))
-    (subst (λ x. OnOk c.tell_full.result (end.told c.args.line ≡ (state x).told c.args.line ++ full_reply which.Blobs)) same (c.tell_full.ensures.told gt))
-    (subst (λ x. IfErr c.tell_full.result (λ stop. StopsTelling stop (full_reply which.Blobs) ((state x).told c.args.line) (end.told c.args.line))) same (c.tell_full.ensures.stops gt))
-    (subst (λ x. Passes (state x) end (Telling (state x) c.args.line (full_reply which.Blobs))) same (c.tell_full.ensures.time gt)))
+pub returns-in-Tell-clause-acts : goal.returns-in-Tell-clause-acts
+returns-in-Tell-clause-acts g c = λ gt.
+    let x = g.G.Ground.state c.args.ground.now in
+    let end = g.G.Ground.state c.tell_parts.new.ground in
+    let v = c.args.store.now in
+    let reply : List ℕ = c.in-Tell.head.items ++ c.in-Tell.body.items in
+    let text : c.deref.result.now ++ c.deref-in-Tell.result.now ≡ reply = λ i. c.deref.ensures.value i ++ c.deref-in-Tell.ensures.value i in
+    subst (λ (a : Act). ActsFor v.limits c.args.line (done_by (x.files 3) v.limits (stock_of x v) a) c.tell_parts.result x end v v) (sym c.in-Tell.is)
+    (telling_acts v.limits c.args.line (λ r. r ≡ reply) reply c.tell_parts.result x end v c.requires.ready (c.requires.holds gt) refl (c.tell_parts.ensures.disk gt)
+    (subst (λ (l : List ℕ). OnOk c.tell_parts.result (end.told c.args.line ≡ x.told c.args.line ++ l)) text (c.tell_parts.ensures.told gt))
+    (subst (λ (l : List ℕ). IfErr c.tell_parts.result (λ stop. StopsTelling stop l (x.told c.args.line) (end.told c.args.line))) text (c.tell_parts.ensures.stops gt))
+    (subst (λ (l : List ℕ). Passes x end (Telling x c.args.line l)) text (c.tell_parts.ensures.time gt)))
 
-pub returns-in-NoRoomInJournal-clause-acts : goal.returns-in-NoRoomInJournal-clause-acts
-returns-in-NoRoomInJournal-clause-acts g c = λ gt.
-    let e = c.commit.ensures in
-    let is = (journal_ended c.commit.result (λ w h. e.full_which w h) (ended c.outcome_of.result _ _ c.in-NoRoomInJournal.is c.outcome_of.ensures)) in
-    let same = err_same c.commit.result _ is e.not_written (λ q. cc q) (λ q. cc q) in
-    let kept = err_same c.commit.result _ is e.unchanged (λ q. cc q) (λ q. cc q) in
-    let state = g.G.Ground.state in
-    let end = state c.tell_full-in-NoRoomInJournal.new.ground in
-    subst (λ (x : View). ActsFor c.args.limits.now c.args.line
-    (accept c.args.limits.now (stock_of (state c.args.ground.now) c.args.store.now) (file_in ((state c.args.ground.now).files 3)) c.args.change (c.args.head.now ++ rest_of ((state c.args.ground.now).files 3) (option_copied c.args.file)))
-    c.tell_full-in-NoRoomInJournal.result (state c.args.ground.now) end c.args.store.now x) (sym kept)
-    (full_acts c.args.limits.now c.args.line (state c.args.ground.now) c.args.store.now c.args.change c.args.staged _ c.requires.ready (c.requires.fills gt)
-    which.Journal c.tell_full-in-NoRoomInJournal.result _ (c.requires.holds gt) (inr refl)
-    (λ b. absurd (cc b))
-    (λ j. ((λ passes. absurd (cc (sym is ∙ e.full_blobs.1 (c.requires.ready.still_open, passes)))), e.full_journal is (codec.change.spell c.args.change) (c.requires.bytes, refl)))
-    (subst (λ x. LeavesDisk (state x) end) same (c.tell_full-in-NoRoomInJournal.ensures.disk gt))
-    (subst (λ x. OnOk c.tell_full-in-NoRoomInJournal.result (end.told c.args.line ≡ (state x).told c.args.line ++ full_reply which.Journal)) same (c.tell_full-in-NoRoomInJournal.ensures.told gt))
-    (subst (λ x. IfErr c.tell_full-in-NoRoomInJournal.result (λ stop. StopsTelling stop (full_reply which.Journal) ((state x).told c.args.line) (end.told c.args.line))) same (c.tell_full-in-NoRoomInJournal.ensures.stops gt))
-    (subst (λ x. Passes (state x) end (Telling (state x) c.args.line (full_reply which.Journal))) same (c.tell_full-in-NoRoomInJournal.ensures.time gt)))
+pub returns-in-Send-clause-acts : goal.returns-in-Send-clause-acts
+returns-in-Send-clause-acts g c = λ gt.
+    let x = g.G.Ground.state c.args.ground.now in
+    let end = g.G.Ground.state c.tell_reply.new.ground in
+    let v = c.args.store.now in
+    let reply : List ℕ = c.in-Send.head.items ++ content (x.files 3) c.in-Send.file in
+    let text : c.deref-in-Send.result.now ++ content (x.files 3) c.in-Send.file ≡ reply = ap (λ (l : List ℕ). l ++ content (x.files 3) c.in-Send.file) c.deref-in-Send.ensures.value in
+    subst (λ (w : View). ActsFor v.limits c.args.line (done_by (x.files 3) v.limits (stock_of x v) c.args.act) c.tell_reply.result x end v w) (sym c.tell_reply.ensures.unchanged)
+    (subst (λ (a : Act). ActsFor v.limits c.args.line (done_by (x.files 3) v.limits (stock_of x v) a) c.tell_reply.result x end v v) (sym c.in-Send.is)
+    (front_acts v.limits c.args.line reply c.tell_reply.result x end v c.requires.ready (c.requires.holds gt) (c.tell_reply.ensures.disk gt) c.tell_reply.ensures.no_memory
+    (subst (λ (l : List ℕ). OnOk c.tell_reply.result (end.told c.args.line ≡ x.told c.args.line ++ l)) text (c.tell_reply.ensures.told gt))
+    (subst (λ (l : List ℕ). OnErr c.tell_reply.result (TellsFront l (x.told c.args.line) (end.told c.args.line))) text (c.tell_reply.ensures.stops gt))
+    (subst (λ (l : List ℕ). Passes x end (Telling x c.args.line l)) text (c.tell_reply.ensures.time gt))))
 
-pub returns-in-Device-clause-acts : goal.returns-in-Device-clause-acts
-returns-in-Device-clause-acts g c = λ gt.
-    let e = c.commit.ensures in
-    let is = ended c.outcome_of.result _ _ c.in-Device.is c.outcome_of.ensures in
-    device_acts c.args.limits.now c.args.line (g.G.Ground.state c.args.ground.now) c.args.store.now c.args.change c.args.staged _ c.requires.ready (c.requires.fills gt)
-    (λ passes. other_fault c.commit.result fault.Device (fault.Full which.Blobs) is (λ q. cc q) (e.full_blobs.1 (c.requires.ready.still_open, passes)))
-    (λ passes. e.within (inr is) (codec.change.spell c.args.change) (c.requires.bytes, refl) passes)
-    _ _ (e.told gt)
-    (committing c.requires.ready (e.moments gt c.requires.ready.still_open (codec.change.spell c.args.change) (c.requires.bytes, refl)))
-
-pub returns-clause-acts : goal.returns-clause-acts
-returns-clause-acts g c = λ gt.
-    let e = c.commit.ensures in
-    let is = ended c.outcome_of.result _ _ c.in-Memory.is c.outcome_of.ensures in
-    ⊎_elim
-    (λ same. still_acts c.args.limits.now c.args.line
-    (accept c.args.limits.now (stock_of (g.G.Ground.state c.args.ground.now) c.args.store.now) (file_in ((g.G.Ground.state c.args.ground.now).files 3)) c.args.change (c.args.head.now ++ rest_of ((g.G.Ground.state c.args.ground.now).files 3) (option_copied c.args.file)))
-    (g.G.Ground.state c.args.ground.now) (g.G.Ground.state c.commit.new.outside) c.args.store.now _ (ap g.G.Ground.state same))
-    (λ fits. memory_acts c.args.limits.now c.args.line (g.G.Ground.state c.args.ground.now) c.args.store.now c.args.change c.args.staged _ c.requires.ready (c.requires.fills gt)
-    (λ passes. other_fault c.commit.result fault.Memory (fault.Full which.Blobs) is (λ q. cc q) (e.full_blobs.1 (c.requires.ready.still_open, passes)))
-    (λ passes. fits (codec.change.spell c.args.change) (c.requires.bytes, refl) passes)
-    _ _ (e.told gt)
-    (committing c.requires.ready (e.moments gt c.requires.ready.still_open (codec.change.spell c.args.change) (c.requires.bytes, refl))))
-    (e.memory is)
-
-pub returns-in-Done-clause-acts : goal.returns-in-Done-clause-acts
-returns-in-Done-clause-acts g c = λ gt.
-    let f = c.commit.ensures in
-    let is = ended c.outcome_of.result _ _ c.in-Done.is c.outcome_of.ensures in
-    let rest : rest_of ((g.G.Ground.state c.commit.new.outside).files 3) (option_copied c.args.file) ≡ rest_of ((g.G.Ground.state c.args.ground.now).files 3) (option_copied c.args.file) =
-    ap (λ (b : List ℕ). rest_of b (option_copied c.args.file)) (ok_same c.commit.result is (f.contents gt)) in
-    let state = g.G.Ground.state in
-    subst (λ (x : View). ActsFor c.args.limits.now c.args.line
-    (accept c.args.limits.now (stock_of (state c.args.ground.now) c.args.store.now) (file_in ((state c.args.ground.now).files 3)) c.args.change (c.args.head.now ++ rest_of ((state c.args.ground.now).files 3) (option_copied c.args.file)))
-    c.tell_reply.result (state c.args.ground.now) (state c.tell_reply.new.ground) c.args.store.now x) (sym c.tell_reply.ensures.unchanged)
-    (committed_acts c.args.limits.now c.args.line (g.G.Ground.state c.args.ground.now) c.args.store.now c.args.change c.args.staged _ c.requires.ready (c.requires.fills gt)
-    (λ passes. other_ok c.commit.result (fault.Full which.Blobs) is (f.full_blobs.1 (c.requires.ready.still_open, passes)))
-    (λ passes. f.within (inl is) (codec.change.spell c.args.change) (c.requires.bytes, refl) passes)
-    c.tell_reply.result _ _ c.commit.new.self (f.told gt) (ok_same c.commit.result is (f.holding gt)) ((ok_same c.commit.result is f.longer) (codec.change.spell c.args.change) (c.requires.bytes, refl))
-    (record { still_open = ok_same c.commit.result is f.still_open; limits_are = f.limits ∙ c.requires.ready.limits_are; unstaged = f.staging ∙ c.requires.ready.unstaged })
-    (f.holds gt)
-    (committing c.requires.ready (f.moments gt c.requires.ready.still_open (codec.change.spell c.args.change) (c.requires.bytes, refl)))
-    (c.tell_reply.ensures.disk gt) c.tell_reply.ensures.no_memory
-    (subst (λ (l : List ℕ). OnOk c.tell_reply.result ((g.G.Ground.state c.tell_reply.new.ground).told c.args.line ≡ (g.G.Ground.state c.commit.new.outside).told c.args.line ++ (c.args.head.now ++ l))) rest (c.tell_reply.ensures.told gt))
-    (subst (λ (l : List ℕ). OnErr c.tell_reply.result (TellsFront (c.args.head.now ++ l) ((g.G.Ground.state c.commit.new.outside).told c.args.line) ((g.G.Ground.state c.tell_reply.new.ground).told c.args.line))) rest (c.tell_reply.ensures.stops gt))
-    (subst (λ (l : List ℕ). Passes (g.G.Ground.state c.commit.new.outside) (g.G.Ground.state c.tell_reply.new.ground) (Telling (g.G.Ground.state c.commit.new.outside) c.args.line (c.args.head.now ++ l))) rest (c.tell_reply.ensures.time gt)))
-
-pub outcome_of-requires : goal.outcome_of-requires
-outcome_of-requires g c = record { still_open = λ n is. absurd (cc (sym c.requires.ready.still_open ∙ (c.commit.ensures.closed n).0 is)) }
+pub returns-in-Commit-clause-acts : goal.returns-in-Commit-clause-acts
+returns-in-Commit-clause-acts g c = λ gt.
+    let x = g.G.Ground.state c.args.ground.now in
+    let end = g.G.Ground.state c.commit_and_tell.new.ground in
+    let v = c.args.store.now in
+    let file : option_copied c.as_ref.result ≡ c.in-Commit.file = c.as_ref.ensures.value in
+    subst (λ (a : Act). ActsFor v.limits c.args.line (done_by (x.files 3) v.limits (stock_of x v) a) c.commit_and_tell.result x end v c.commit_and_tell.new.store) (sym c.in-Commit.is)
+    (subst (λ (o : Option FileRef). ActsFor v.limits c.args.line (accept v.limits (stock_of x v) (file_in (x.files 3)) c.in-Commit.change (c.in-Commit.head.items ++ rest_of (x.files 3) o)) c.commit_and_tell.result x end v c.commit_and_tell.new.store) file
+    (subst (λ (l : List ℕ). ActsFor v.limits c.args.line (accept v.limits (stock_of x v) (file_in (x.files 3)) c.in-Commit.change (l ++ rest_of (x.files 3) (option_copied c.as_ref.result))) c.commit_and_tell.result x end v c.commit_and_tell.new.store) c.deref-in-Commit.ensures.value
+    (c.commit_and_tell.ensures.acts gt)))
