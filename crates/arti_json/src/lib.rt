@@ -4,10 +4,10 @@
 mod escape;
 mod fault;
 mod push;
-mod read;
+mod reading;
 mod write;
 
 pub use fault::JsonFault;
 pub use push::push_text;
-pub use read::{flag_at, number_at, read, text_at};
+pub use reading::{flag_at, number_at, read, text_at};
 pub use write::{write_number, write_text};
