@@ -1,0 +1,13 @@
+mod Keys
+mod Places
+mod Texts
+mod Caches
+mod Framing
+mod Marking
+mod Fixpoints
+mod Expanding
+mod Ways
+mod Searching
+mod Passing
+mod Growing
+mod Faults

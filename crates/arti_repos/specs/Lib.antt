@@ -1,0 +1,9 @@
+pub mod Definitions
+pub mod Walks
+pub mod Cycles
+pub mod Refused
+pub mod Frames
+pub mod Met
+pub mod Visits
+pub mod Ranks
+pub mod Places
