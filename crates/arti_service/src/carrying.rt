@@ -21,7 +21,7 @@ use arti_blobs::{StageFault, Staged};
 use arti_ground::Ground;
 use arti_rows::{Change, FileRef, Refusal, Which};
 use arti_store::{CommitFault, ContentFault, Store};
-use std::alloc::Global;
+use std::alloc::{AllocError, Global};
 
 /// Stages a content whole.
 pub fn stage<G: Ground>(store: &mut Store, ground: &mut G, body: &[u8]) -> Result<Staged, Stop>
@@ -134,6 +134,13 @@ fn tell_reply<G: Ground>(
     }
 }
 
+// The reply where there is no room. A refusal has many kinds, and its end is proved for each, so it ends in a function of its own.
+fn full_bytes(alloc: Global, which: Which) -> Result<Vec<u8>, AllocError>
+    ensures { IfOk result (λ v. v.items ≡ full_reply which) }
+{
+    refusal_bytes(alloc, false, &Refusal::Full(which))
+}
+
 // Tells what there is no room for.
 fn tell_full<G: Ground>(alloc: Global, ground: &mut G, line: u32, which: Which) -> Result<(), Stop>
     ensures told { G.tells → OnOk result ((G.state ground.new).told line ≡ (G.state ground.old).told line ++ full_reply which) }
@@ -145,7 +152,7 @@ fn tell_full<G: Ground>(alloc: Global, ground: &mut G, line: u32, which: Which) 
     ensures disk_faults { G.disk_faults ground.new ≡ G.disk_faults ground.old }
     ensures disk { G.tells → LeavesDisk (G.state ground.old) (G.state ground.new) }
 {
-    let reply = refusal_bytes(alloc, false, &Refusal::Full(which))?;
+    let reply = full_bytes(alloc, which)?;
     tell(ground, line, &reply)
 }
 
