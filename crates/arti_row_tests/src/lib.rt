@@ -10,6 +10,4 @@ mod property_texts;
 #[cfg(test)]
 mod props;
 #[cfg(test)]
-mod repos;
-#[cfg(test)]
 mod tree;
