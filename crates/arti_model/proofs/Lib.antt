@@ -1,4 +1,5 @@
 mod Rows
+mod AskRows
 pub mod OneReading
 mod Runs
 mod Orders

@@ -1,12 +1,16 @@
 //! What the program's promises speak of: definitions on lists of bytes, and laws about them.
 #![tactic(auto)]
 
+mod asks;
+
 ghost use Rattle.std.specs.Prelude.{◌≡◌, ℕ, ℤ, List};
 ghost use Rattle.arti_rows.specs.declared.limits.Limits.{Limits};
 ghost use Rattle.arti_model.specs.Requests.{Start, Begins, Whole, Ending, RequestBytes};
 ghost use Rattle.arti_model.specs.Stock.{Stock};
 ghost use Rattle.arti_model.specs.Store.{Item, InDefaultOrder, put_item};
 ghost use Rattle.arti_model.specs.Run.{AnswersAll, run_bytes};
+
+pub use asks::{Ask, AskRow, Route};
 
 /// Why the bytes of a stream are no request.
 #[derive(Clone, Copy, Debug, PartialEq, Eq)]
