@@ -1,3 +1,4 @@
 mod Rows
+mod AskRows
 pub mod OneReading
 mod Runs

@@ -5,6 +5,8 @@ pub mod Store
 pub mod Query
 pub mod Apply
 pub mod Deploys
+pub mod Targets
+pub mod Asks
 pub mod Stock
 pub mod Mapped
 pub mod Laws

@@ -1,6 +1,8 @@
 //! What the program's promises speak of: definitions on lists of bytes, and laws about them.
 #![tactic(auto)]
 
+mod asks;
+
 ghost use Rattle.std.specs.Prelude.{◌≡◌, ℕ, ℤ, List};
 ghost use Rattle.arti_rows.specs.declared.edits.Edit.{Edit};
 ghost use Rattle.arti_rows.specs.declared.limits.Limits.{Limits};
@@ -11,6 +13,8 @@ ghost use Rattle.arti_model.specs.Mapped.{items_mapped};
 ghost use Rattle.arti_model.specs.Stock.{Stock};
 ghost use Rattle.arti_model.specs.Store.{Item, InDefaultOrder, put_item};
 ghost use Rattle.arti_model.specs.Run.{AnswersAll, run_bytes};
+
+pub use asks::{Ask, AskRow, Route};
 
 /// Why the bytes of a stream are no request.
 #[derive(Clone, Copy, Debug, PartialEq, Eq)]
