@@ -14,8 +14,8 @@ text_of key (Some null) = Ok None
 text_of key (Some (string text)) = kept_text key text
 text_of key (Some (boolean flag)) = Err (WrongKind key)
 text_of key (Some (number n)) = Err (WrongKind key)
-text_of key (Some (array items)) = Err (WrongKind key)
-text_of key (Some (object members)) = Err (WrongKind key)
+text_of key (Some (array _)) = Err (WrongKind key)
+text_of key (Some (object _)) = Err (WrongKind key)
 
 abbrev pub flag_of : List ℕ → Bool → Option Data → Result Bool JsonFault
 flag_of key default None = Ok default
@@ -23,8 +23,8 @@ flag_of key default (Some null) = Ok default
 flag_of key default (Some (boolean flag)) = Ok flag
 flag_of key default (Some (string text)) = Err (WrongKind key)
 flag_of key default (Some (number n)) = Err (WrongKind key)
-flag_of key default (Some (array items)) = Err (WrongKind key)
-flag_of key default (Some (object members)) = Err (WrongKind key)
+flag_of key default (Some (array _)) = Err (WrongKind key)
+flag_of key default (Some (object _)) = Err (WrongKind key)
 
 -- an integer from 0 on that 64 bits hold; one with a sign, a point or an exponent is of another kind
 abbrev pub kept_number : List ℕ → Num → Result (Option ℕ) JsonFault
@@ -38,5 +38,5 @@ number_of key (Some null) = Ok None
 number_of key (Some (number n)) = kept_number key n
 number_of key (Some (boolean flag)) = Err (WrongKind key)
 number_of key (Some (string text)) = Err (WrongKind key)
-number_of key (Some (array items)) = Err (WrongKind key)
-number_of key (Some (object members)) = Err (WrongKind key)
+number_of key (Some (array _)) = Err (WrongKind key)
+number_of key (Some (object _)) = Err (WrongKind key)
