@@ -11,3 +11,5 @@ mod moments;
 mod patterns;
 #[cfg(test)]
 mod queries;
+#[cfg(test)]
+mod targets;

@@ -17,3 +17,7 @@ pub mod Refusals
 pub mod Decide
 pub mod Perform
 pub mod StepLaws
+pub mod Edits
+pub mod DecideItems
+pub mod ItemLaws
+pub mod EditLaws

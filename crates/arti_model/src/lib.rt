@@ -7,6 +7,10 @@ ghost use Rattle.std.specs.Prelude.{◌≡◌, ℕ, ℤ, List};
 ghost use Rattle.arti_rows.specs.declared.edits.Edit.{Edit};
 ghost use Rattle.arti_rows.specs.declared.limits.Limits.{Limits};
 ghost use Rattle.arti_rows.specs.declared.rows.FileRef.{FileRef};
+ghost use Rattle.arti_model.specs.Decide.{Decision};
+ghost use Rattle.arti_model.specs.DecideItems.{Looks, decide_items};
+ghost use Rattle.arti_model.specs.ItemLaws.{IsAccepted};
+ghost use Rattle.arti_model.specs.declared.asks.AskRow.{AskRow};
 ghost use Rattle.arti_model.specs.Requests.{Start, Begins, Whole, Ending, RequestBytes};
 ghost use Rattle.arti_model.specs.Apply.{edited, edit_refusal};
 ghost use Rattle.arti_model.specs.Mapped.{items_mapped};
@@ -58,4 +62,10 @@ pub fn edits_look_at_no_content<F, G>()
     ensures done { (f : F → G) (file_of : FileRef → F) (moment : ℤ) (user : List ℕ) (edit : Edit) (items : List (Item F))
         → items_mapped f (edited file_of moment user edit items) ≡ edited (λ ref. f (file_of ref)) moment user edit (items_mapped f items) }
     ensures judged { (f : F → G) (limits : Limits) (edit : Edit) (items : List (Item F)) → edit_refusal limits edit (items_mapped f items) ≡ edit_refusal limits edit items }
+{}
+
+/// A change that a request for items makes is refused by nothing, whatever is decided of all other requests.
+pub fn item_changes_are_accepted<F>()
+    ensures { (looks : Looks F) (limits : Limits) (items : List (Item F)) (moment : ℤ) (user : List ℕ) (sent : F) (ask : AskRow) (other : Decision F)
+        → IsAccepted limits items other → IsAccepted limits items (decide_items looks limits items moment user sent ask other) }
 {}

@@ -1,0 +1,4 @@
+pub mod Documents
+pub mod Keys
+pub mod Body
+pub mod Written
