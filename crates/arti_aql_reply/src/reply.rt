@@ -1,7 +1,7 @@
 // The reply to a query.
 ghost use Rattle.std.specs.Prelude.{◌≡◌, ◌++◌, ◌∷◌, [], ◌+◌, ◌^◌, ◌<◌, ◌≤◌, length, map, OnOk, IfOk, IsErrOf, codes, decimal, flat_map, None};
 ghost use Rattle.arti_model.specs.Query.{with_commas, row_text, limit_text, range_text, reply_text};
-ghost use Rattle.arti_model.specs.Step.{reply_room};
+ghost use Rattle.arti_rows.specs.Sizes.{most_reply};
 ghost use Rattle.arti_aql_reply.specs.Rows.{facts_of_row, facts_of_rows};
 
 use crate::ReplyFault;
@@ -21,7 +21,7 @@ fn write_next_row(alloc: Global, out: &mut Vec<u8>, row: &ItemRow) -> Result<(),
 // The same, as long as the text isn't too large.
 fn write_next(alloc: Global, out: &mut Vec<u8>, row: &ItemRow) -> Result<(), ReplyFault>
     ensures ok { OnOk result (out.new.items ≡ out.old.items ++ 44 ∷ row_text (facts_of_row row.now)) }
-    ensures too_large { IsErrOf result ReplyFault.ReplyTooLarge → reply_room < length (out.old.items ++ 44 ∷ row_text (facts_of_row row.now)) }
+    ensures too_large { IsErrOf result ReplyFault.ReplyTooLarge → most_reply < length (out.old.items ++ 44 ∷ row_text (facts_of_row row.now)) }
 {
     write_next_row(alloc, out, row)?;
     if MOST_REPLY < out.len() {
@@ -33,7 +33,7 @@ fn write_next(alloc: Global, out: &mut Vec<u8>, row: &ItemRow) -> Result<(), Rep
 // Appends rows behind others.
 fn write_others(alloc: Global, out: &mut Vec<u8>, rows: &[&ItemRow]) -> Result<(), ReplyFault>
     ensures ok { OnOk result (out.new.items ≡ out.old.items ++ flat_map (λ t. 44 ∷ t) (map row_text (facts_of_rows rows.now))) }
-    ensures too_large { IsErrOf result ReplyFault.ReplyTooLarge → reply_room < length (out.old.items ++ flat_map (λ t. 44 ∷ t) (map row_text (facts_of_rows rows.now))) }
+    ensures too_large { IsErrOf result ReplyFault.ReplyTooLarge → most_reply < length (out.old.items ++ flat_map (λ t. 44 ∷ t) (map row_text (facts_of_rows rows.now))) }
 {
     for row in rows {
         match write_next(alloc, out, row) {
@@ -47,7 +47,7 @@ fn write_others(alloc: Global, out: &mut Vec<u8>, rows: &[&ItemRow]) -> Result<(
 // Appends the rows with commas between them.
 fn write_rows(alloc: Global, out: &mut Vec<u8>, rows: &[&ItemRow]) -> Result<(), ReplyFault>
     ensures ok { OnOk result (out.new.items ≡ out.old.items ++ with_commas (map row_text (facts_of_rows rows.now))) }
-    ensures too_large { IsErrOf result ReplyFault.ReplyTooLarge → reply_room < length (out.old.items ++ with_commas (map row_text (facts_of_rows rows.now))) }
+    ensures too_large { IsErrOf result ReplyFault.ReplyTooLarge → most_reply < length (out.old.items ++ with_commas (map row_text (facts_of_rows rows.now))) }
 {
     match rows.split_first() {
         None => Ok(()),
@@ -112,8 +112,8 @@ fn write_end(alloc: Global, out: &mut Vec<u8>, total: u64) -> Result<(), AllocEr
 /// The text that answers a query for these rows, without include, offset and limit.
 pub fn thin_reply(alloc: Global, rows: &[&ItemRow]) -> Result<Vec<u8>, ReplyFault>
     ensures text { IfOk result (λ v. v.items ≡ reply_text 0 None (facts_of_rows rows.now)) }
-    ensures fits { IfOk result (λ v. length v.items ≤ reply_room) }
-    ensures too_large { IsErrOf result ReplyFault.ReplyTooLarge → reply_room < length (reply_text 0 None (facts_of_rows rows.now)) }
+    ensures fits { IfOk result (λ v. length v.items ≤ most_reply) }
+    ensures too_large { IsErrOf result ReplyFault.ReplyTooLarge → most_reply < length (reply_text 0 None (facts_of_rows rows.now)) }
 {
     let mut out = Vec::from_slice(alloc, b"{\"results\":[")?;
     if let Err(fault) = write_rows(alloc, &mut out, rows) {

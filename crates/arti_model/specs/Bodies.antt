@@ -59,10 +59,6 @@ refused status message = json_reply status (error_body status message)
 abbrev pub refused_head : ℕ → List ℕ → List ℕ
 refused_head status message = head_bytes status json_kind None (length (error_body status message))
 
--- a file's whole reply
-abbrev pub content_reply : File → List ℕ
-content_reply file = head_bytes 200 content_kind (Some file.digests) (length file.content) ++ file.content
-
 -- an item as messages name it
 abbrev pub item_text : Key → List ℕ
 item_text key = key.repo ++ 47 ∷ whole_of key

@@ -1,7 +1,8 @@
 -- What a request comes to, before anything outside is touched (after the REST API of JFrog Artifactory): what its head asks, and what is decided
 -- over the repository alone.
-use Rattle.std.specs.Prelude.{ℕ, ℤ, ◌&&◌, nat_lt, if◌then◌else◌, List, [], ◌∷◌, length, codes, Option, Some, None, Result, Ok, Err}
+use Rattle.std.specs.Prelude.{ℕ, ℤ, Bool, ◌&&◌, ◌||◌, nat_lt, if◌then◌else◌, List, [], ◌∷◌, length, codes, Option, Some, None, is_some, option_and_then, Result, Ok, Err}
 use Rattle.arti_rows.specs.Key.{Key}
+use Rattle.arti_rows.specs.DigestsOf.{digests_of}
 use Rattle.arti_rows.specs.declared.limits.Limits.{Limits}
 use Rattle.arti_rows.specs.declared.rows.Digests.{Digests}
 use Rattle.arti_rows.specs.declared.rows.FileRef.{FileRef}
@@ -12,11 +13,11 @@ use Rattle.arti_rows.specs.declared.refusal.Refusal.{Refusal}
 use Rattle.arti_rows.specs.declared.refusal.Refusal.TheVariants as refusals
 use Rattle.arti_model.specs.Requests.{Request, FieldText}
 use Rattle.arti_model.specs.Store.{Repository, Item, File, find_item}
-use Rattle.arti_model.specs.Apply.{deployed, added_with, passes_limit}
+use Rattle.arti_model.specs.Apply.{deployed, file_above, has_folder, added_with, passes_limit}
 use Rattle.arti_model.specs.Bodies.{json_kind, content_kind, deploy_body}
 use Rattle.arti_model.specs.Deploys.{bad_header, wanted_digests, is_checksum_deploy, lacks_digest, given_of, mismatch, file_with}
 use Rattle.arti_model.specs.Query.{file_size, all_in, query_text, thin_key, thin_end}
-use Rattle.arti_model.specs.Step.{has_method, is_plain, is_query, item_asked, anonymous, is_barred, file_at, fetch_change}
+use Rattle.arti_model.specs.Heads.{has_method, is_plain, is_query, item_asked}
 
 -- ---- what is asked
 
@@ -76,6 +77,14 @@ content_of file = record { status = 200; kind = content_kind; digests = Some fil
 
 -- ---- deploys
 
+-- the user of a request that names none
+abbrev pub anonymous : List ℕ
+anonymous = codes "anonymous"
+
+-- a content with the digests of its own
+abbrev pub file_of_body : List ℕ → File
+file_of_body body = record { content = body; digests = digests_of body }
+
 -- the change of a deploy of that content
 abbrev pub deploy_making : ℤ → Key → SomeDigests → FileRef → Change
 deploy_making moment key wanted file =
@@ -101,11 +110,23 @@ abbrev pub decide_sent : (File → FileRef) → Limits → Repository File → �
 decide_sent reference limits r moment key wanted file (Some name) = Refused (refusals.ChecksumMismatch name)
 decide_sent reference limits r moment key wanted file None = decide_file reference limits r moment key wanted file
 
--- where a file stands above, or a folder at the key, the refusal isn't built yet
+-- a file stands above, or a folder at the key
+abbrev pub is_barred : {F : Type 0} → List (Item F) → Key → Bool
+is_barred items key = is_some (file_above items key) || has_folder items key
+
+-- there the refusal isn't built yet
 abbrev pub unless_barred : Repository File → Key → Decision File → Decision File
 unless_barred r key decision = if is_barred r.items key then Refused (refusals.NotYet None) else decision
 
 -- ---- fetches and queries
+
+-- the file of a key; a folder is none
+abbrev pub file_at : {F : Type 0} → List (Item F) → Key → Option F
+file_at items key = option_and_then (λ item. item.file) (find_item items key)
+
+-- the change of a fetch
+abbrev pub fetch_change : ℤ → Key → Change
+fetch_change moment key = record { moment = moment; user = anonymous; edits = edits.Downloaded key ∷ [] }
 
 -- a fetch where that is the file
 abbrev pub decide_content : ℤ → Key → Option File → Decision File

@@ -11,12 +11,12 @@ pub mod Stock
 pub mod Mapped
 pub mod Laws
 pub mod OrderLaws
+pub mod Heads
+pub mod Decide
+pub mod Refusals
+pub mod Perform
 pub mod Step
 pub mod Run
-pub mod Refusals
-pub mod Decide
-pub mod Perform
-pub mod StepLaws
 pub mod Edits
 pub mod DecideItems
 pub mod ItemLaws

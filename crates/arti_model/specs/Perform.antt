@@ -1,16 +1,15 @@
 -- What is done with a decision: where a reply becomes bytes, and where room is judged.
-use Rattle.std.specs.Prelude.{ℕ, ℤ, Bool, true, false, nat_le, if◌then◌else◌, List, ◌++◌, length, codes}
+use Rattle.std.specs.Prelude.{ℕ, Bool, true, false, nat_le, if◌then◌else◌, List, ◌++◌, length}
+use Rattle.arti_rows.specs.Sizes.{most_reply}
 use Rattle.arti_rows.specs.declared.limits.Limits.{Limits}
 use Rattle.arti_rows.specs.declared.refusal.Refusal.{Refusal}
 use Rattle.arti_rows.specs.declared.refusal.Refusal.TheVariants.{ReplyTooLarge}
-use Rattle.arti_model.specs.Requests.{Request, Whole}
 use Rattle.arti_model.specs.Store.{File}
 use Rattle.arti_model.specs.Replies.{head_bytes}
 use Rattle.arti_model.specs.Bodies.{error_body}
-use Rattle.arti_model.specs.Stock.{Stock, Answer, unchanged, reference_to, accept}
+use Rattle.arti_model.specs.Stock.{Stock, Answer, unchanged, accept}
 use Rattle.arti_model.specs.Refusals.{status_of, message_of}
-use Rattle.arti_model.specs.Decide.{ask_of, Content, Words, Kept, Reply, Decision, Refused, Tells, Makes, json, decided}
-use Rattle.arti_model.specs.Step.{has_method, reply_room, file_of_body}
+use Rattle.arti_model.specs.Decide.{Content, Words, Kept, Reply, Decision, Refused, Tells, Makes, json}
 
 -- ---- the bytes of a reply
 
@@ -34,7 +33,7 @@ refusal_reply why = json (status_of why) (error_body (status_of why) (message_of
 
 -- a text may be too long for a reply; a content that is kept never is
 abbrev pub fits : Content File → Bool
-fits (Words text) = nat_le (length text) reply_room
+fits (Words text) = nat_le (length text) most_reply
 fits (Kept file) = true
 
 abbrev pub fitting : Reply File → Reply File
@@ -45,16 +44,3 @@ abbrev pub perform : Limits → Stock → Bool → Decision File → Answer
 perform limits s alone (Refused why) = unchanged s (told alone (refusal_reply why))
 perform limits s alone (Tells reply) = unchanged s (told alone (fitting reply))
 perform limits s alone (Makes change file_of reply) = accept limits s file_of change (told alone reply)
-
--- a reply is told by its head alone
-abbrev pub is_head : Request → Bool
-is_head q = has_method q (codes "HEAD")
-
--- what is decided of a request over what a store has
-abbrev pub decision_on : Limits → Stock → Whole → ℤ → Decision File
-decision_on limits s q moment =
-    decided (λ file. reference_to file s.holding.kept) limits s.holding.repository (ask_of q.head) q.body (file_of_body q.body) moment
-
--- one request at a moment
-abbrev pub performed : Limits → Stock → Whole → ℤ → Answer
-performed limits s q moment = perform limits s (is_head q.head) (decision_on limits s q moment)

@@ -8,7 +8,8 @@ use Rattle.arti_model.specs.Requests.{Request, Whole, Ending, End, Cut, Bad, Too
 use Rattle.arti_model.specs.Bodies.{refused}
 use Rattle.arti_model.specs.Apply.{Holding}
 use Rattle.arti_model.specs.Stock.{Stock}
-use Rattle.arti_model.specs.Step.{step, is_query}
+use Rattle.arti_model.specs.Heads.{is_query}
+use Rattle.arti_model.specs.Step.{step}
 
 -- the first moment, or moment 0 where none is left
 abbrev pub first_of : List ℤ → ℤ

@@ -3,7 +3,7 @@ ghost use Rattle.std.specs.Prelude.{◌≡◌, ◌&&◌, nat_eq, true, false, if
 ghost use Rattle.std.specs.List.{list_any, list_all, starts_with};
 ghost use Rattle.arti_rows.specs.Key.{key_of};
 ghost use Rattle.arti_model.specs.Store.{local_key};
-ghost use Rattle.arti_model.specs.Step.{has_field, has_method, deploy_fields, is_plain, local_front, is_target_byte, is_plain_path, target_item, item_asked, is_query};
+ghost use Rattle.arti_model.specs.Heads.{has_field, has_method, deploy_fields, is_plain, local_front, is_target_byte, is_plain_path, target_item, item_asked, is_query};
 ghost use Rattle.arti_wire.specs.Fields.{texts_of};
 
 use crate::fields::{self, has_field};

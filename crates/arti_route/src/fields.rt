@@ -2,7 +2,7 @@
 // name the first counts.
 ghost use Rattle.std.specs.Prelude.{◌≡◌, None, is_err, option_and_then, option_copied};
 ghost use Rattle.std.specs.Result.{result_unwrap_or};
-ghost use Rattle.arti_model.specs.Step.{has_field};
+ghost use Rattle.arti_model.specs.Heads.{has_field};
 ghost use Rattle.arti_model.specs.Deploys.{first_value, written, is_bad, bad_header, wanted_digests, is_checksum_deploy};
 ghost use Rattle.arti_wire.specs.Fields.{texts_of};
 ghost use Rattle.std.specs.Str.{str_eq_ignore_ascii_case};

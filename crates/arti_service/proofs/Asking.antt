@@ -6,7 +6,7 @@ use Rattle.std.proofs.lemmas.Bool.{false≢true}
 use Rattle.arti_rows.specs.Key.{Key, key_of}
 use Rattle.arti_model.specs.Requests.{Request}
 use Rattle.arti_model.specs.Store.{local_key}
-use Rattle.arti_model.specs.Step.{is_plain, is_query, item_asked, target_item, local_front, is_plain_path}
+use Rattle.arti_model.specs.Heads.{is_plain, is_query, item_asked, target_item, local_front, is_plain_path}
 use Rattle.arti_model.specs.Run.{is_reading}
 
 second : (a b : Bool) → (a && b) ≡ true → b ≡ true

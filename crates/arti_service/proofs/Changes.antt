@@ -18,7 +18,7 @@ use Rattle.arti_codec.specs.Format.{number}
 use Rattle.arti_codec.specs.ChangeBytes as codec
 use Rattle.arti_model.specs.Store.{Item, File, find_item, has_file, same_key, local_key}
 use Rattle.arti_model.specs.Apply.{Holding, is_local, refused_if, refused_below, file_above, has_folder, added_with, passes_limit, first_refusal, refusal}
-use Rattle.arti_model.specs.Step.{is_barred, file_at}
+use Rattle.arti_model.specs.Decide.{is_barred, file_at}
 use Rattle.arti_service.proofs.Thin.{same_texts}
 
 -- ---- a reference has as many bytes wherever it points

@@ -2,6 +2,7 @@
 use Rattle.std.proofs.Common.{◌≡◌, ℕ, ◌+◌, ℤ, Bool, true, false, cond, List, [], ◌∷◌, length, refl, sym, ap, ◌∙◌, subst}
 use Rattle.std.specs.Prelude.{Result, Option, Some, None, ◌||◌, nat_lt, nat_le, codes}
 use Rattle.arti_rows.specs.Key.{Key}
+use Rattle.arti_rows.specs.Sizes.{most_reply}
 use Rattle.arti_rows.specs.declared.limits.Limits.{Limits}
 use Rattle.arti_rows.specs.declared.rows.FileRef.{FileRef}
 use Rattle.arti_rows.specs.declared.rows.SomeDigests.{SomeDigests}
@@ -15,7 +16,7 @@ use Rattle.arti_model.specs.Apply.{Holding, apply, added_with, passes_limit}
 use Rattle.arti_model.specs.Bodies.{refused, deploy_body}
 use Rattle.arti_model.specs.Deploys.{given_of, mismatch, file_with}
 use Rattle.arti_model.specs.Stock.{Stock, Answer, unchanged, reference_to, fills_blobs, body_length, accept}
-use Rattle.arti_model.specs.Step.{anonymous, is_barred, fetch_change, reply_room}
+use Rattle.arti_model.specs.Decide.{anonymous, is_barred, fetch_change}
 use Rattle.arti_model.specs.Decide as model
 use Rattle.arti_model.specs.Perform.{told, refusal_reply, perform}
 use Rattle.arti_store.specs.Items.{file_in}
@@ -136,6 +137,6 @@ fetches bytes moment key file found is =
 -- ---- a query
 
 -- a text that is too long is refused
-pub too_large : (text : List ℕ) → nat_le (length text) reply_room ≡ false → SameDone (model.Refused refusals.ReplyTooLarge) (model.Tells (model.json 200 text))
+pub too_large : (text : List ℕ) → nat_le (length text) most_reply ≡ false → SameDone (model.Refused refusals.ReplyTooLarge) (model.Tells (model.json 200 text))
 too_large text long = λ limits s alone.
     ap (λ (b : Bool). outcome (unchanged s (told alone (cond b (model.json 200 text) (refusal_reply refusals.ReplyTooLarge))))) (sym long)

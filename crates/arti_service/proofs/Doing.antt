@@ -3,6 +3,7 @@ use Rattle.std.proofs.Common.{◌≡◌, inl, inr, ⊎_elim, ℕ, ℤ, Bool, tru
 use Rattle.std.specs.Prelude.{Result, OnOk, Option, Some, None, nat_lt}
 use Rattle.std.proofs.lemmas.List.Elements.{All-contains, All-append, All-cons, All-nil}
 use Rattle.arti_rows.specs.Key.{Key}
+use Rattle.arti_rows.specs.DigestsOf.{digests_of}
 use Rattle.arti_rows.specs.declared.limits.Limits.{Limits}
 use Rattle.arti_rows.specs.declared.rows.FileRef.{FileRef}
 use Rattle.arti_rows.specs.declared.rows.SomeDigests.{SomeDigests}
@@ -15,11 +16,12 @@ use Rattle.arti_model.specs.Requests.{Whole}
 use Rattle.arti_model.specs.Store.{Repository, File}
 use Rattle.arti_model.specs.Query.{thin_key}
 use Rattle.arti_model.specs.Stock.{Stock, Answer, reference_to}
-use Rattle.arti_model.specs.Step.{step, file_of_body, digests_of}
+use Rattle.arti_model.specs.Step.{step}
 use Rattle.arti_model.specs.Run.{IsReply}
 use Rattle.arti_model.specs.Decide as model
-use Rattle.arti_model.specs.Perform.{is_head, perform}
-use Rattle.arti_model.specs.StepLaws.{step_is}
+use Rattle.arti_model.specs.Decide.{file_of_body}
+use Rattle.arti_model.specs.Heads.{is_head}
+use Rattle.arti_model.specs.Perform.{perform}
 use Rattle.arti_store.specs.Items.{file_in}
 use Rattle.arti_store.specs.Store.{View, Standing}
 use Rattle.arti_service.specs.declared.answering.Stop.{Stop}
@@ -117,11 +119,12 @@ pub step_acts : (limits : Limits) (line : ℕ) (alone : Bool) (q : Whole) (momen
     → Acts v.limits line (MayReply a (perform v.limits (stock_of x v) alone (asked_over (x.files 3) v (asked_is a) q.body (file_of_body q.body) moment)))
     (perform v.limits (stock_of x v) alone (asked_over (x.files 3) v (asked_is a) q.body (file_of_body q.body) moment)).stock result x x' v v'
     → Acts limits line (IsReply limits (stock_of x v) q moment) (step limits (stock_of x v) q moment).stock result x x' v v'
+unfolding step
 step_acts limits line alone q moment a result x x' v v' same head asks reads acts =
     let s = stock_of x v in
     let at : Limits → Bool → Result model.Ask Refusal → Answer =
     λ l b r. perform l s b (model.decided (λ file. reference_to file s.holding.kept) l s.holding.repository r q.body (file_of_body q.body) moment) in
-    let is : at v.limits alone (asked_is a) ≡ step limits s q moment = (λ i. at (same i) (head i) (asks i)) ∙ sym (step_is limits s moment q) in
+    let is : at v.limits alone (asked_is a) ≡ step limits s q moment = (λ i. at (same i) (head i) (asks i)) in
     let here : Acts limits line (MayReply a (at v.limits alone (asked_is a))) (at v.limits alone (asked_is a)).stock result x x' v v' =
     subst (λ (l : Limits). Acts l line (MayReply a (at v.limits alone (asked_is a))) (at v.limits alone (asked_is a)).stock result x x' v v') same acts in
     acts_more limits line (MayReply a (at v.limits alone (asked_is a))) (IsReply limits s q moment) _ _ result x x' v v'

@@ -4,7 +4,7 @@ use Rattle.arti_rows.specs.Key.{Key}
 use Rattle.arti_rows.specs.declared.rows.SomeDigests.{SomeDigests}
 use Rattle.arti_model.specs.Store.{File}
 use Rattle.arti_model.specs.Stock.{reference_to}
-use Rattle.arti_model.specs.Step.{is_barred}
+use Rattle.arti_model.specs.Decide.{is_barred}
 use Rattle.arti_model.specs.Decide as model
 use Rattle.arti_store.specs.Items.{items_in}
 use Rattle.arti_store.specs.Store.{View, holding_of}

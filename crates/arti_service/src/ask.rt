@@ -1,7 +1,7 @@
 // What the head of a request asks.
 ghost use Rattle.std.specs.Prelude.{◌≡◌, ◌&&◌, IfOk, Some};
 ghost use Rattle.arti_model.specs.Deploys.{lacks_digest, bad_header, wanted_digests};
-ghost use Rattle.arti_model.specs.Step.{item_asked};
+ghost use Rattle.arti_model.specs.Heads.{item_asked};
 ghost use Rattle.arti_model.specs.Decide.{ask_of, asked_of, deploy_asked};
 ghost use Rattle.arti_wire.specs.Fields.{texts_of};
 ghost use Rattle.arti_service.specs.Asks.{asked_is, IsKnownToRead, IsLocal};

@@ -4,7 +4,7 @@ ghost use Rattle.arti_ground.specs.State.{LeavesDisk, Passes, Rose};
 ghost use Rattle.arti_rows.specs.declared.rows.FileRef.{FileRef};
 ghost use Rattle.arti_blobs.specs.Contents.{content, HasPair};
 ghost use Rattle.arti_model.specs.Stock.{accept};
-ghost use Rattle.arti_model.specs.Step.{digests_of};
+ghost use Rattle.arti_rows.specs.DigestsOf.{digests_of};
 ghost use Rattle.arti_store.specs.Items.{file_in};
 ghost use Rattle.arti_store.specs.Store.{HoldsStore, Standing, kept_and, MayKeep, IsStaged};
 ghost use Rattle.arti_service.specs.Cuts.{StopsTelling, TellsFront};

@@ -7,7 +7,7 @@ ghost use Rattle.arti_model.specs.Store.{File, find_item, local_key};
 ghost use Rattle.arti_model.specs.Apply.{deployed};
 ghost use Rattle.arti_model.specs.Bodies.{deploy_body};
 ghost use Rattle.arti_model.specs.Deploys.{given_of};
-ghost use Rattle.arti_model.specs.Step.{anonymous};
+ghost use Rattle.arti_model.specs.Decide.{anonymous};
 ghost use Rattle.arti_model.specs.Decide as model;
 ghost use Rattle.arti_rows.specs.declared.edits.Edit.TheVariants as edits;
 ghost use Rattle.arti_store.specs.Items.{file_in, items_in};

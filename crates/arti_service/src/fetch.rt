@@ -2,7 +2,7 @@
 ghost use Rattle.std.specs.Prelude.{◌≡◌, ℕ, List, [], ◌∷◌, IfOk};
 ghost use Rattle.arti_codec.specs.ChangeBytes.{HasBytes};
 ghost use Rattle.arti_model.specs.Store.{File, local_key};
-ghost use Rattle.arti_model.specs.Step.{fetch_change};
+ghost use Rattle.arti_model.specs.Decide.{fetch_change};
 ghost use Rattle.arti_model.specs.Decide as model;
 ghost use Rattle.arti_service.specs.Decisions.{Decides, decided_in};
 ghost use Rattle.std.specs.Prelude.{None};

@@ -4,7 +4,7 @@ ghost use Rattle.arti_rows.specs.Key.{folders_above};
 ghost use Rattle.arti_model.specs.Store.{File, has_item, has_file};
 ghost use Rattle.arti_model.specs.Apply.{added_with, passes_limit};
 ghost use Rattle.arti_model.specs.Deploys.{is_wanted, file_with};
-ghost use Rattle.arti_model.specs.Step.{is_barred, file_at};
+ghost use Rattle.arti_model.specs.Decide.{is_barred, file_at};
 ghost use Rattle.arti_store.specs.Items.{file_in, items_in};
 
 use arti_route::has_digests;

@@ -1,6 +1,6 @@
 use Rattle.std.proofs.Common.{false, sym}
 use Rattle.std.proofs.lemmas.Str.Pattern.{starts_text}
-use Rattle.arti_model.specs.Step.{local_front}
+use Rattle.arti_model.specs.Heads.{local_front}
 use Rattle.arti_route.proofs.ask.behind_front.Goals as goal
 
 pub returns-clause-front : goal.returns-clause-front

@@ -1,5 +1,5 @@
 use Rattle.std.proofs.Common.{◌≡◌, drop}
-use Rattle.arti_model.specs.Step.{has_field}
+use Rattle.arti_model.specs.Heads.{has_field}
 use Rattle.arti_wire.specs.Fields.{texts_of}
 use Rattle.arti_route.proofs.fields.has_field.Given as goal
 

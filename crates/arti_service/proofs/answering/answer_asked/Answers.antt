@@ -1,4 +1,4 @@
-use Rattle.arti_model.specs.Step.{file_of_body}
+use Rattle.arti_model.specs.Decide.{file_of_body}
 use Rattle.arti_service.specs.declared.ask.Asked.TheVariants as asked
 use Rattle.arti_service.proofs.Doing.{asked_acts}
 use Rattle.arti_service.proofs.answering.answer_asked.Goals as goal

@@ -1,6 +1,6 @@
 use Rattle.std.proofs.Common.{◌≡◌, length, sym, ap, ◌∙◌, subst, rules}
 use Rattle.std.specs.Prelude.{Result, Err}
-use Rattle.arti_model.specs.Step.{file_of_body}
+use Rattle.arti_model.specs.Decide.{file_of_body}
 use Rattle.arti_service.specs.Acts.{ActsFor}
 use Rattle.arti_service.specs.Stocks.{stock_of}
 use Rattle.arti_service.specs.declared.answering.Stop.{Stop}

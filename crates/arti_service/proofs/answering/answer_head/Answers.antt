@@ -1,5 +1,5 @@
 use Rattle.std.proofs.Common.{[]}
-use Rattle.arti_model.specs.Step.{file_of_body}
+use Rattle.arti_model.specs.Decide.{file_of_body}
 use Rattle.arti_store.specs.ImageLaws.{contents_whole}
 use Rattle.arti_model.specs.Perform.{perform}
 use Rattle.arti_service.specs.Asks.{asked_is}

@@ -1,7 +1,7 @@
 use Rattle.std.proofs.Common.{[], ap, ◌∙◌}
 use Rattle.std.specs.Prelude.{pos, None}
 use Rattle.std.proofs.lemmas.Result.{IfOk-weaker}
-use Rattle.arti_model.specs.Step.{file_of_body}
+use Rattle.arti_model.specs.Decide.{file_of_body}
 use Rattle.arti_service.specs.Decisions.{outcome}
 use Rattle.arti_service.proofs.Doing.{has_status, whole_in}
 use Rattle.arti_service.proofs.answering.query_act.Goals as goal

@@ -7,7 +7,7 @@ use Rattle.arti_rows.specs.declared.edits.Change.{Change}
 use Rattle.arti_blobs.specs.Contents.{content}
 use Rattle.arti_model.specs.Apply.{refusal, added_with, passes_limit}
 use Rattle.arti_model.specs.Deploys.{given_of}
-use Rattle.arti_model.specs.Step.{anonymous}
+use Rattle.arti_model.specs.Decide.{anonymous}
 use Rattle.arti_model.specs.Decide as model
 use Rattle.arti_store.specs.Items.{file_in, items_in}
 use Rattle.arti_store.specs.Changes.{references_of}

@@ -8,7 +8,7 @@ use Rattle.arti_model.specs.Store.{Item, File, find_item}
 use Rattle.arti_model.specs.Apply.{deployed}
 use Rattle.arti_model.specs.Bodies.{deploy_body, deployed_body}
 use Rattle.arti_model.specs.Deploys.{given_of}
-use Rattle.arti_model.specs.Step.{anonymous}
+use Rattle.arti_model.specs.Decide.{anonymous}
 use Rattle.arti_store.specs.Items.{file_in, item_in, items_in}
 use Rattle.arti_service.proofs.deploy.deploy_body.Goals as goal
 

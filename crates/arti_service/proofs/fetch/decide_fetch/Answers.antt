@@ -3,7 +3,7 @@ use Rattle.std.specs.Prelude.{All, Contains, None, option_map}
 use Rattle.arti_rows.specs.declared.edits.Change.{Change}
 use Rattle.arti_rows.specs.declared.refusal.Refusal.TheVariants as refusals
 use Rattle.arti_model.specs.Apply.{refusal}
-use Rattle.arti_model.specs.Step.{anonymous, file_at}
+use Rattle.arti_model.specs.Decide.{anonymous, file_at}
 use Rattle.arti_model.specs.Decide as model
 use Rattle.arti_store.specs.Items.{file_in, items_in}
 use Rattle.arti_store.specs.Changes.{references_of}

@@ -6,7 +6,7 @@ use Rattle.arti_aql_reply.specs.Rows.{facts_of_rows}
 use Rattle.arti_aql_reply.specs.declared.fault.ReplyFault.TheVariants.{ReplyTooLarge}
 use Rattle.arti_model.specs.Query.{Facts, all_in, facts_of, file_size, page, query_text, reply_text}
 use Rattle.arti_model.specs.Decide as model
-use Rattle.arti_model.specs.Step.{reply_room}
+use Rattle.arti_rows.specs.Sizes.{most_reply}
 use Rattle.arti_store.specs.Items.{items_in}
 use Rattle.arti_store.specs.Store.{holding_of}
 use Rattle.arti_service.specs.Queries.{IsWhole, key_over}
@@ -46,7 +46,7 @@ returns-in-Err-ReplyTooLarge-clause-decides c = record {
       let fault : IsErrOf c.thin_reply.result ReplyTooLarge =
       subst (λ e. IsErrOf c.thin_reply.result e) c.in-Err-ReplyTooLarge.field-0-is (subst (λ r. IsErrOf r c.in-Err-ReplyTooLarge.field-0) (sym c.in-Err-ReplyTooLarge.is) refl) in
       let text : List ℕ = query_text file_size (all_in repo) (holding_of bytes v).repository in
-      let long : reply_room < length text = subst (λ (l : List Facts). reply_room < length (reply_text 0 None l)) facts (c.thin_reply.ensures.too_large fault) in
-      too_large text (le_false (length text) reply_room long);
+      let long : most_reply < length text = subst (λ (l : List Facts). most_reply < length (reply_text 0 None l)) facts (c.thin_reply.ensures.too_large fault) in
+      too_large text (le_false (length text) most_reply long);
   may = tt;
 }
