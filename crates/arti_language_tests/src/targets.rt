@@ -25,13 +25,6 @@ impl From<AllocError> for Stop {
     }
 }
 
-fn read(alloc: Global, target: &str, groups: usize) -> Result<Target, Stop> {
-    if groups > 1000 {
-        return Err(Stop::NoMatch);
-    }
-    read_target(alloc, target, groups as u32).map_err(|fault| Stop::Target(fault))
-}
-
 // The target of a file in `libs` by a pattern; an empty target is none.
 fn named(
     alloc: Global,
@@ -52,7 +45,12 @@ fn named(
     if target.is_empty() {
         return Ok(target_of(alloc, None, flat, &key, &text, &spans)?);
     }
-    let target = read(alloc, target, spans.len())?;
+    if spans.len() > 1000 {
+        return Err(Stop::NoMatch);
+    }
+    let target = read_target(alloc, target, spans.len() as u32).map_err(|fault| Stop::Target(
+        fault,
+    ))?;
     Ok(target_of(alloc, Some(&target), flat, &key, &text, &spans)?)
 }
 
