@@ -86,8 +86,8 @@ fn digests() -> &'static str {
     "---~^777~^7--~^-7-~^--7~^877~md5^888~md5^788~sha1^-8-~sha1^778~sha256^--8~sha256^-88~sha1^8--~md5"
 }
 
-// Fields, one a line, each with its name, a colon and its value.
-fn fields_of(alloc: Global, lines: &[u8]) -> Result<Seq<Field>, Fail> {
+/// Fields, one a line, each with its name, a colon and its value.
+pub fn fields_of(alloc: Global, lines: &[u8]) -> Result<Seq<Field>, Fail> {
     let mut fields = Vec::new(alloc);
     for line in lines.split(|b| *b == b'\n') {
         if let Some(colon) = line.iter().position(|b| *b == b':') {

@@ -38,8 +38,8 @@ pub fn has_field(fields: &[Field], name: &str) -> bool
     false
 }
 
-// The value of the first field of that name.
-fn first_value<'a>(fields: &'a [Field], name: &str) -> Option<&'a [u8]>
+/// The value of the first field of that name.
+pub fn first_value<'a>(fields: &'a [Field], name: &str) -> Option<&'a [u8]>
     ensures { option_copied result ≡ first_value (texts_of fields.now) name.now }
 {
     for field in fields {

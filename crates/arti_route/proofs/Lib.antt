@@ -1,0 +1,4 @@
+mod Steps
+mod Targets
+mod Routing
+mod Naming
