@@ -1,3 +1,9 @@
 pub mod Digits
 pub mod Cuts
 pub mod Walks
+pub mod Each
+pub mod Parts
+pub mod Fields
+pub mod Groups
+pub mod Capped
+pub mod Pushed

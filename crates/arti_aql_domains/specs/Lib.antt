@@ -1,2 +1,5 @@
 pub mod Entries
 pub mod Paths
+pub mod Conditions
+pub mod Behind
+pub mod Listed

@@ -1,8 +1,15 @@
 //! The fields and paths that queries name, and the values that they are tested against.
 #![tactic(auto)]
 
+mod cases;
+mod cond;
+mod criteria;
 mod faults;
+mod leaves;
 mod paths;
+mod queries;
+mod same;
+mod sorting;
 mod table;
 mod values;
 
@@ -10,6 +17,8 @@ pub use arti_query_model::{
     FieldId, FieldType, ItemKind, PropKey, PropTest, Rel, Shown, ShownPart, TypeFault, TypedLit,
     TypedTest,
 };
+pub use cond::{Cond, Typed};
 pub use paths::{Target, What, find_target, shown_of};
+pub use queries::type_query;
 pub use table::{field_of, has_properties, is_shown_at_first, relation_name, relation_of, takes};
 pub use values::{kind_of, number_in, typed_test, value_test};
