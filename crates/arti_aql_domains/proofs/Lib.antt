@@ -7,3 +7,5 @@ pub mod Fields
 pub mod Groups
 pub mod Capped
 pub mod Pushed
+pub mod Slashes
+pub mod OneRow

@@ -3,3 +3,5 @@ pub mod Paths
 pub mod Conditions
 pub mod Behind
 pub mod Listed
+pub mod RowValues
+pub mod Alone
