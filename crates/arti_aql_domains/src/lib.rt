@@ -17,7 +17,7 @@ mod table;
 mod tested;
 mod values;
 
-pub use alone::test;
+pub use alone::{is_alone, test};
 pub use arti_query_model::{
     FieldId, FieldType, ItemKind, PropKey, PropTest, Rel, Shown, ShownPart, TypeFault, TypedLit,
     TypedTest,
