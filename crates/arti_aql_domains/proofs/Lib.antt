@@ -9,3 +9,4 @@ pub mod Capped
 pub mod Pushed
 pub mod Slashes
 pub mod OneRow
+pub mod Named

@@ -5,3 +5,4 @@ pub mod Behind
 pub mod Listed
 pub mod RowValues
 pub mod Alone
+pub mod Sortable
