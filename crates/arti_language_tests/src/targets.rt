@@ -1,7 +1,10 @@
 //! Targets of file specs, on examples of JFrog's File Spec manual and at their edges.
+ghost use Rattle.std.specs.Prelude.{◌≡◌, length, IfOk, None};
+ghost use Rattle.arti_targets.specs.Targets.{wrong_part};
+
 use arti_rows::{ItemKey, KeyFault, Text};
 use arti_targets::{Target, TargetFault, read_target, target_of};
-use arti_wild::{PatternFault, captures, read_pattern};
+use arti_wild::{PatternFault, Span, captures, read_pattern};
 use std::alloc::{AllocError, Global};
 use std::test::Fail;
 
@@ -25,11 +28,17 @@ impl From<AllocError> for Stop {
     }
 }
 
-fn read(alloc: Global, target: &str, groups: usize) -> Result<Target, Stop> {
-    if groups > 1000 {
+// A target whose placeholders are numbers of these spans.
+fn read(alloc: Global, target: &str, spans: &[Span]) -> Result<Target, Stop>
+    ensures { IfOk result (λ t. wrong_part (length spans.now) t ≡ None) }
+{
+    if spans.len() > 1000 {
         return Err(Stop::NoMatch);
     }
-    read_target(alloc, target, groups as u32).map_err(|fault| Stop::Target(fault))
+    match read_target(alloc, target, spans.len() as u32) {
+        Ok(target) => Ok(target),
+        Err(fault) => Err(Stop::Target(fault)),
+    }
 }
 
 // The target of a file in `libs` by a pattern; an empty target is none.
@@ -52,7 +61,7 @@ fn named(
     if target.is_empty() {
         return Ok(target_of(alloc, None, flat, &key, &text, &spans)?);
     }
-    let target = read(alloc, target, spans.len())?;
+    let target = read(alloc, target, &spans)?;
     Ok(target_of(alloc, Some(&target), flat, &key, &text, &spans)?)
 }
 
