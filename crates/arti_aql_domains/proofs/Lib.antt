@@ -7,3 +7,6 @@ pub mod Fields
 pub mod Groups
 pub mod Capped
 pub mod Pushed
+pub mod Slashes
+pub mod OneRow
+pub mod Named

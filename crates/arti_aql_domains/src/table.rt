@@ -8,8 +8,8 @@ ghost use Rattle.arti_aql_domains.specs.Entries.{entry_view, meaning};
 use arti_aql_parse::Op;
 use arti_query_model::{FieldId, FieldType, Rel};
 
-// A field's name, what values it has, and which one it is.
-type Field = (&'static str, FieldType, FieldId);
+/// A field's name, what values it has, and which one it is.
+pub type Field = (&'static str, FieldType, FieldId);
 
 const ITEM: [Field; 17] = [
     ("repo", FieldType::Texts, FieldId::ItemRepo),
@@ -91,9 +91,9 @@ const OF_BUILD: [Rel; 3] = [Rel::Property, Rel::Module, Rel::Promotion];
 
 const NO_RELATIONS: [Rel; 0] = [];
 
-// The fields of a domain, in the order in which they are shown.
+/// The fields of a domain, in the order in which they are shown.
 #[tactic(auto, unfolding(arti_query_model::specs::Table::fields))]
-fn fields(domain: Rel) -> &'static [Field]
+pub fn fields(domain: Rel) -> &'static [Field]
     ensures { map entry_view result.now ≡ table.fields domain }
 {
     match domain {
@@ -184,7 +184,8 @@ fn same(a: &str, b: &str) -> bool
     a == b
 }
 
-fn named_field(fields: &[Field], name: &str) -> Option<(FieldType, FieldId)>
+/// The first of these fields that has this name.
+pub fn named_field(fields: &[Field], name: &str) -> Option<(FieldType, FieldId)>
     ensures { result ≡ option_map meaning (table.named_entry name.now (map entry_view fields.now)) }
 {
     for field in fields {

@@ -13,3 +13,7 @@ mod patterns;
 mod queries;
 #[cfg(test)]
 mod targets;
+#[cfg(test)]
+mod typed_rows;
+#[cfg(test)]
+mod typing;

@@ -1,0 +1,8 @@
+use Rattle.std.proofs.Common.{◌≡◌, drop}
+use Rattle.std.specs.List.{list_any}
+use Rattle.arti_query_model.specs.World.{in_question, property_meets}
+use Rattle.arti_aql_domains.proofs.owned.one_meets.Given as goal
+
+abbrev pub invariant-loop-property : goal.invariant-loop-property
+invariant-loop-property l =
+    list_any (property_meets l.test) (in_question l.test.key l.properties) ≡ list_any (property_meets l.test) (in_question l.test.key (drop l.property-index l.properties))
