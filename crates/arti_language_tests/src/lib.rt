@@ -2,6 +2,8 @@
 #![tactic(auto)]
 
 #[cfg(test)]
+mod definitions;
+#[cfg(test)]
 mod json_texts;
 #[cfg(test)]
 mod lexing;
