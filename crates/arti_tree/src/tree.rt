@@ -1,5 +1,5 @@
 // The rows of the tree and the lists that are kept of them.
-ghost use Rattle.std.specs.Prelude.{◌≡◌, ◌≢◌, ◌-◌, ◌&&◌, drop, slice_index_or, IfErr, ◌<◌, ◌≤◌, ◌+◌, ◌^◌, vec_len, vec_capacity, List, [], ◌++◌, length, if◌then◌else◌, map, option_map, IfOk, IfSome, IsSome, OnOk, OnErr, Some, None, true, false};
+ghost use Rattle.std.specs.Prelude.{◌≡◌, ◌≢◌, ◌-◌, ◌&&◌, drop, slice_index_or, All, IfErr, ◌<◌, ◌≤◌, ◌+◌, ◌^◌, vec_len, vec_capacity, List, [], ◌++◌, length, if◌then◌else◌, map, option_map, IfOk, IfSome, IsSome, OnOk, OnErr, Some, None, true, false};
 ghost use Rattle.std.specs.Option.{option_map_or, is_none, is_some};
 ghost use Rattle.std.specs.List.{concat, filter, find};
 ghost use Rattle.arti_tree.specs.ByKey.{by_key, KeysOnce};
@@ -76,6 +76,13 @@ impl Tree {
         ensures { IsTree self.now }
     {
         let _ = &self.slots;
+    }
+
+    /// All folders above each row are there.
+    pub fn folders_stand(&self)
+        ensures { (r : Row) → IsLive self.now r → All (IsFolder self.now) (folders_above r.key) }
+    {
+        self.rules();
     }
 
     /// The id of a key.
