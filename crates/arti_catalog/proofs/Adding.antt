@@ -6,7 +6,7 @@ use Rattle.std.specs.Option.{is_none}
 use Rattle.std.specs.Ordering.{is_lt}
 use Rattle.std.proofs.lemmas.Bool.{eq-eqb, ne_eqb}
 use Rattle.std.proofs.lemmas.List.{drop_more, map-append}
-use Rattle.std.proofs.lemmas.List.Elements.{All-nil, All-cons, All-head, All-tail, All-append, All-weaker, All-filter, filter_agree}
+use Rattle.std.proofs.lemmas.List.Elements.{All-nil, All-cons, All-head, All-tail, All-weaker, filter_agree}
 use Rattle.arti_rows.specs.Key.{Key, key_cmp, folders_above}
 use Rattle.arti_rows.specs.declared.rows.FileRef.{FileRef}
 use Rattle.arti_rows.specs.declared.rows.ItemRow.{ItemRow}
@@ -18,6 +18,7 @@ use Rattle.arti_tree.specs.ByKeyLaws.{by_key-with_rows}
 use Rattle.arti_model.specs.Store.{Item, has_item, put_item, put_items, new_folder, missing_folders, item_of_row}
 use Rattle.arti_model.specs.Laws.{filter-map}
 use Rattle.arti_catalog.specs.Held.{Fits, HasRow, IsSet, IsPut, put_at, at, item_with, items_of, folder_row, no_row}
+use Rattle.arti_catalog.specs.LiveLaws.{All-by_key}
 use Rattle.arti_catalog.proofs.Found.{has_is}
 
 -- ---- rows at ids
@@ -43,16 +44,6 @@ none_by false x rest e = (refl, e)
 not_found : {X : Type 0} (p : X → Bool) (xs : List X) → find p xs ≡ None → All (λ x. p x ≡ false) xs
 not_found p [] e = All-nil (λ x. p x ≡ false)
 not_found p (x ∷ xs) e = let both = none_by (p x) x (find p xs) e in All-cons (λ x. p x ≡ false) x xs both.0 (not_found p xs both.1)
-
-All-put_row : (P : Row → Type 0) (r : Row) (rows : List Row) → P r → All P rows → All P (put_row r rows)
-All-put_row P r rows here all =
-    All-append P (filter (λ x. is_lt (key_cmp x.key r.key)) rows) (r ∷ filter (λ x. is_lt (key_cmp r.key x.key)) rows) (All-filter (λ x. is_lt (key_cmp x.key r.key)) P rows all)
-    (All-cons P r (filter (λ x. is_lt (key_cmp r.key x.key)) rows) here (All-filter (λ x. is_lt (key_cmp r.key x.key)) P rows all))
-
--- what holds of all rows holds of them in the default order
-pub All-by_key : (P : Row → Type 0) (rows : List Row) → All P rows → All P (by_key rows)
-All-by_key P [] all = all
-All-by_key P (r ∷ rows) all = All-put_row P r (by_key rows) (All-head P r rows all) (All-by_key P rows (All-tail P r rows all))
 
 with_by : (P : Row → Type 0) (b : Bool) (r x : Row) (rows rest : List Row) → P r → All P (x ∷ rows) → All P rest → All P (cond b (r ∷ x ∷ rows) (x ∷ rest))
 with_by P true r x rows rest here all more = All-cons P r (x ∷ rows) here all

@@ -27,3 +27,6 @@ module _ (old slots : List (Option (Box ItemRow Global))) (id : ℕ) (row : Box 
 -- the place of an id is emptied
 pub others-opened : (slots : List (Option (Box ItemRow Global))) (id i : ℕ) → i ≢ id → at (map opened (set slots id None)) i ≡ at (map opened slots) i
 others-opened slots id i other = at-opened (set slots id None) i ∙ ap opened (get_or-set_other slots id i None None other) ∙ sym (at-opened slots i)
+
+pub gone-opened : (slots : List (Option (Box ItemRow Global))) (id : ℕ) → id < length slots → at (map opened (set slots id None)) id ≡ None
+gone-opened slots id long = at-opened (set slots id None) id ∙ ap opened (get_or-set_same slots id None None long)

@@ -19,9 +19,9 @@ use Rattle.arti_model.specs.Store.{Item, InDefaultOrder, has_item, has_file}
 use Rattle.arti_model.specs.Apply.{is_local, has_folder}
 use Rattle.arti_catalog.specs.Held.{Fits, Keeps, HasRow, HasSome, AreLive, at, item_with, items_of}
 use Rattle.arti_catalog.specs.Formed.{WellFormed}
+use Rattle.arti_catalog.specs.LiveLaws.{all_live, All-by_key}
 use Rattle.arti_catalog.proofs.Found.{found_has, has_is, has_file_is, length-by_key}
-use Rattle.arti_catalog.proofs.Adding.{All-by_key}
-use Rattle.arti_catalog.proofs.Setting.{all_live, found_passes}
+use Rattle.arti_catalog.proofs.Setting.{found_passes}
 
 module _ (limits : Limits) (tree : List Row) (rows : List (Option ItemRow)) (fits : Fits tree rows) (keeps : Keeps limits tree) where
   -- what holds of each row holds of each item

@@ -5,3 +5,8 @@ pub mod Setting
 pub mod Keeping
 pub mod Forming
 pub mod Changing
+pub mod Within
+pub mod Gone
+pub mod Each
+pub mod PropsOf
+pub mod Counting

@@ -1,16 +1,16 @@
 -- Another row at the id of a key.
-use Rattle.std.proofs.Common.{◌≡◌, ◌≢◌, ℕ, ◌+◌, ◌≤◌, Bool, true, false, cond, eqb, List, [], ◌∷◌, ◌++◌, get_or, Option, Some, refl, sym, ap, subst, ◌∙◌, arith, Ordering, Less, Equal, Greater}
+use Rattle.std.proofs.Common.{◌≡◌, ◌≢◌, ℕ, Bool, true, false, cond, eqb, List, [], ◌∷◌, ◌++◌, get_or, Option, Some, refl, sym, ap, subst, ◌∙◌, Ordering, Less, Equal, Greater}
 use Rattle.std.specs.Prelude.{All, ℤ, ◌&&◌, ◌||◌, not, option_map, map, filter, is_some, unwrap_or}
 use Rattle.std.specs.List.{find}
 use Rattle.std.specs.Option.{option_map_or}
 use Rattle.std.specs.Ordering.{is_lt}
 use Rattle.std.proofs.lemmas.Bool.{eqb-false, eq-eqb, ne_eqb}
-use Rattle.std.proofs.lemmas.List.Elements.{All-nil, All-cons, All-head, All-tail, All-weaker, All-filter, filter_passes}
+use Rattle.std.proofs.lemmas.List.Elements.{All-head, All-tail, All-filter, filter_passes}
 use Rattle.arti_rows.specs.Key.{Key, key_cmp, same_key, folders_above}
 use Rattle.arti_rows.specs.KeyLaws.{key_cmp-refl, key_cmp-Less, same_key-Less, same_key-Greater, same_key-true}
 use Rattle.arti_rows.specs.declared.rows.FileRef.{FileRef}
 use Rattle.arti_rows.specs.declared.rows.ItemRow.{ItemRow}
-use Rattle.arti_tree.specs.Rows.{Row, row_at, row_of, RowsFrom, IsLive, IsFolder}
+use Rattle.arti_tree.specs.Rows.{Row, row_at, row_of, IsLive, IsFolder}
 use Rattle.arti_tree.specs.Kept.{Rising}
 use Rattle.arti_tree.specs.ByKey.{put_row, by_key}
 use Rattle.arti_tree.specs.ByKeyLaws.{by_key_rising}
@@ -18,9 +18,10 @@ use Rattle.arti_model.specs.Store.{Item, has_item, has_file, put_item, put_items
 use Rattle.arti_model.specs.Apply.{has_folder, counted, with_download}
 use Rattle.arti_model.specs.Laws.{filter-map}
 use Rattle.arti_catalog.specs.Held.{Fits, HasRow, IsSet, at, item_with, items_of, no_row, counted_row}
+use Rattle.arti_catalog.specs.LiveLaws.{all_live, All-by_key}
 use Rattle.arti_catalog.proofs.Found.{found_has, found_live, find-by_key, has_is, has_file_is, item_is, looked_up}
 use Rattle.arti_catalog.proofs.Changing.{is_true}
-use Rattle.arti_catalog.proofs.Adding.{All-by_key, same_items, puts_items}
+use Rattle.arti_catalog.proofs.Adding.{same_items, puts_items}
 
 -- ---- rows of a tree
 
@@ -31,21 +32,6 @@ passes_by p false y x rest is e more = more e
 pub found_passes : {X : Type 0} (p : X → Bool) (xs : List X) (x : X) → find p xs ≡ Some x → p x ≡ true
 found_passes p [] x e = cc
 found_passes p (y ∷ xs) x e = passes_by p (p y) y x (find p xs) refl e (λ more. found_passes p xs x more)
-
-above_first : (n : ℕ) (rows : List Row) → RowsFrom n rows → All (λ r. n ≤ r.id) rows
-above_first n [] up = All-nil (λ r. n ≤ r.id)
-above_first n (r ∷ rows) up =
-    All-cons (λ r. n ≤ r.id) r rows up.0 (All-weaker (λ x. r.id + 1 ≤ x.id) (λ x. n ≤ x.id) (λ x le. omega (arith, le, up.0)) rows (above_first (r.id + 1) rows up.1))
-
--- each row is that of its id
-pub all_live : (n : ℕ) (rows : List Row) → RowsFrom n rows → All (IsLive rows) rows
-all_live n [] up = All-nil (IsLive [])
-all_live n (r ∷ rows) up =
-    All-cons (IsLive (r ∷ rows)) r rows (ap (λ b. cond b (Some r) (row_of rows r.id)) (eq-eqb r.id r.id refl))
-    (λ k d lt.
-    let x : Row = get_or rows k d in
-    let le : r.id + 1 ≤ x.id = above_first (r.id + 1) rows up.1 k d lt in
-    ap (λ b. cond b (Some r) (row_of rows x.id)) (ne_eqb r.id x.id (λ e. omega (arith, le, e))) ∙ all_live (r.id + 1) rows up.1 k d lt)
 
 -- ---- a row among those in the default order
 

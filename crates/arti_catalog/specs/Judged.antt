@@ -1,7 +1,12 @@
 -- What a judgement says.
-use Rattle.std.specs.Prelude.{◌≡◌, ◌≢◌, Result, Ok, Err, Option, Some, None, Bool, true, false, if◌then◌else◌}
+use Rattle.std.specs.Prelude.{◌≡◌, ◌≢◌, Result, Ok, Err, Option, Some, None, Bool, true, false, if◌then◌else◌, ℕ, nat_lt, List, length}
+use Rattle.std.specs.Option.{option_map_or}
+use Rattle.arti_rows.specs.declared.rows.ItemRow.{ItemRow}
+use Rattle.arti_rows.specs.declared.rows.Property.{Property}
 use Rattle.arti_rows.specs.declared.refusal.Refusal.{Refusal}
 use Rattle.arti_rows.specs.declared.refusal.Refusal.TheVariants as refusal
+use Rattle.arti_model.specs.Edits.{most_props, props_set}
+use Rattle.arti_catalog.specs.Held.{at}
 use Rattle.arti_catalog.specs.declared.fault.ApplyFault.{ApplyFault}
 use Rattle.arti_catalog.specs.declared.fault.ApplyFault.TheVariants.{Refused, Memory}
 
@@ -24,3 +29,7 @@ is_memory e = false
 -- a refusal as a fault
 abbrev pub fault_of : Refusal → ApplyFault
 fault_of e = if is_memory e then Memory else Refused e
+
+-- the row at an id would get too many properties
+abbrev pub gets_too_many : List Property → List (Option ItemRow) → ℕ → Bool
+gets_too_many named rows id = option_map_or (λ row. nat_lt most_props (length (props_set named row.props))) (at rows id) false

@@ -2,16 +2,18 @@
 ghost use Rattle.std.specs.Prelude.{◌≡◌, ◌+◌, [], map, length, None, IfOk, OnOk, option_map};
 ghost use Rattle.std.specs.Option.{option_copied};
 ghost use Rattle.arti_model.specs.Store.{find_item, item_of_row};
-ghost use Rattle.arti_model.specs.Apply.{edited_by, edits_refusal};
+ghost use Rattle.arti_model.specs.Edits.{edited_by};
+ghost use Rattle.arti_catalog.specs.Built.{edits_refusal};
 ghost use Rattle.arti_catalog.specs.Held.{AreLive, items_in, itself, row_at_id};
-ghost use Rattle.arti_catalog.specs.Judged.{Applies};
+ghost use Rattle.arti_catalog.specs.Judged.{Applies, Judges};
 ghost use Rattle.arti_catalog.specs.Formed.{WellFormed};
 
 use crate::changes::{do_all, judge_and_do};
+use crate::judging::judge;
 use crate::parts::Parts;
 use crate::{ApplyFault, Lent};
 use arti_ground::Steps;
-use arti_rows::{Change, ItemKey, ItemRow, Limits};
+use arti_rows::{Change, Edit, ItemKey, ItemRow, Limits, Moment, Refusal, Text};
 use arti_tree::Tree;
 use std::alloc::{AllocError, Global};
 use std::marker::Model;
@@ -80,6 +82,31 @@ impl Catalog {
             rows: &self.parts.rows,
             ids,
         }
+    }
+
+    /// Why a change is refused: the first refusal of its edits, each judged on what those before it leave.
+    pub fn check(&self, alloc: Global, change: &Change) -> Result<(), Refusal>
+        ensures { Judges result (edits_refusal self.now.limits itself change.now.moment change.now.user change.now.edits (items_in self.now)) }
+    {
+        let edits = change.edits.as_slice();
+        if let [edit] = edits {
+            return judge(alloc, &self.limits, &self.parts, edit);
+        }
+        self.check_all(alloc, change.moment, &change.user, edits)
+    }
+
+    // Judges edits on a copy, in which they are done.
+    fn check_all(
+        &self,
+        alloc: Global,
+        moment: Moment,
+        user: &Text,
+        edits: &[Edit],
+    ) -> Result<(), Refusal>
+        ensures { Judges result (edits_refusal self.now.limits itself moment user.now edits.now (items_in self.now)) }
+    {
+        let mut copy = self.parts.copy(alloc)?;
+        judge_and_do(alloc, &self.limits, &mut copy, moment, user, edits)
     }
 
     /// Applies a change that isn't refused. After an `Err` nothing is left but the limits.

@@ -1,6 +1,7 @@
 // Changes: their edits one after the other.
 ghost use Rattle.std.specs.Prelude.{◌≡◌, None, OnOk};
-ghost use Rattle.arti_model.specs.Apply.{edited_by, edits_refusal};
+ghost use Rattle.arti_model.specs.Edits.{edited_by};
+ghost use Rattle.arti_catalog.specs.Built.{edits_refusal};
 ghost use Rattle.arti_catalog.specs.Held.{Fits, Keeps, items_of, itself};
 ghost use Rattle.arti_catalog.specs.Judged.{Judges};
 

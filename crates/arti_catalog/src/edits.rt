@@ -3,11 +3,15 @@ ghost use Rattle.std.specs.Prelude.{◌≡◌, ◌++◌, ◌∷◌, [], true, fa
 ghost use Rattle.std.specs.Option.{option_copied};
 ghost use Rattle.arti_rows.specs.declared.edits.Edit.{Edit};
 ghost use Rattle.arti_model.specs.Store.{has_item, item_of_row, missing_folders, new_folder, put_items};
-ghost use Rattle.arti_model.specs.Apply.{with_folder, with_deployed, with_download, is_local, has_folder, edited, edit_refusal};
+ghost use Rattle.arti_model.specs.Apply.{with_folder, with_deployed, with_download, is_local, has_folder};
+ghost use Rattle.arti_model.specs.Edits.{edited};
+ghost use Rattle.arti_catalog.specs.Built.{edit_refusal};
 ghost use Rattle.arti_tree.specs.Rows.{row_at};
 ghost use Rattle.arti_catalog.specs.Held.{Fits, Keeps, IsPut, counted_row, folder_row, file_row, items_of, itself};
 
 use crate::parts::Parts;
+use crate::props_edits::{PropsEdit, change_props};
+use crate::removing::remove;
 use crate::rows::{Rows, copies};
 use arti_rows::{
     Edit, FileRef, Given, ItemKey, ItemRow, Limits, Moment, Property, Seq, Stat, Text,
@@ -41,6 +45,15 @@ pub(crate) fn do_one(
             alloc, limits, parts, moment, user, key, *given, *file, props,
         ),
         Edit::Downloaded { key } => count_download(parts, moment, user, key),
+        Edit::Remove { key } => remove(alloc, parts, key),
+        Edit::SetProps { key, deep, props } => {
+            let edit = PropsEdit::Set(props.as_slice());
+            change_props(alloc, parts, moment, *deep, key, &edit)
+        }
+        Edit::DropProps { key, deep, keys } => {
+            let edit = PropsEdit::Unset(keys.as_slice());
+            change_props(alloc, parts, moment, *deep, key, &edit)
+        }
         _ => Ok(()),
     }
 }

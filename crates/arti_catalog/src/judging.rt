@@ -5,10 +5,12 @@ ghost use Rattle.arti_rows.specs.Key.{folders_above};
 ghost use Rattle.arti_rows.specs.declared.refusal.Refusal.TheVariants as refusal;
 ghost use Rattle.arti_rows.specs.declared.refusal.Which.TheVariants.{Items};
 ghost use Rattle.arti_model.specs.Store.{has_item, has_file};
-ghost use Rattle.arti_model.specs.Apply.{is_local, refused_if, refused_below, has_folder, added_with, passes_limit, put_refusal, edit_refusal};
+ghost use Rattle.arti_model.specs.Apply.{is_local, refused_if, refused_below, has_folder, added_with, passes_limit, put_refusal};
+ghost use Rattle.arti_catalog.specs.Built.{edit_refusal};
 ghost use Rattle.arti_catalog.specs.Held.{Fits, items_of};
 ghost use Rattle.arti_catalog.specs.Judged.{Judges};
 
+use crate::judging_kept::{judge_remove, judge_set, judge_unset};
 use crate::parts::Parts;
 use arti_rows::{Edit, ItemKey, Limits, Refusal, Which};
 use std::alloc::{AllocError, Global};
@@ -27,6 +29,11 @@ pub(crate) fn judge(
         Edit::Folder { key } => judge_folder(alloc, limits, parts, key),
         Edit::File { key, .. } => judge_file(alloc, limits, parts, key),
         Edit::Downloaded { key } => judge_download(parts, key),
+        Edit::Remove { key } => judge_remove(alloc, parts, key),
+        Edit::SetProps { key, deep, props } => {
+            judge_set(alloc, parts, key, *deep, props.as_slice())
+        }
+        Edit::DropProps { key, deep, .. } => judge_unset(alloc, parts, key, *deep),
         _ => Err(Refusal::NotYet(None)),
     }
 }
@@ -76,7 +83,7 @@ fn judge_download(parts: &Parts, key: &ItemKey) -> Result<(), Refusal>
 }
 
 // The repository of the key is there.
-fn judge_repo(key: &ItemKey) -> Result<(), Refusal>
+pub(crate) fn judge_repo(key: &ItemKey) -> Result<(), Refusal>
     ensures { Judges result (refused_if (not (is_local key.now)) (refusal.NoRepo key.now.repo) None) }
 {
     if key.repo.as_str() == "generic-local" {

@@ -6,8 +6,12 @@ mod changes;
 mod edits;
 mod fault;
 mod judging;
+mod judging_kept;
 mod lent;
+mod pairs;
 mod parts;
+mod props_edits;
+mod removing;
 mod rows;
 
 pub use catalog::Catalog;

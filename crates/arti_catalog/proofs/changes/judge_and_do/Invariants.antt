@@ -1,5 +1,6 @@
 use Rattle.std.proofs.Common.{◌≡◌, drop}
-use Rattle.arti_model.specs.Apply.{edited_by, edits_refusal}
+use Rattle.arti_model.specs.Edits.{edited_by}
+use Rattle.arti_catalog.specs.Built.{edits_refusal}
 use Rattle.arti_catalog.specs.Held.{Fits, Keeps, items_of, itself}
 use Rattle.arti_catalog.proofs.changes.judge_and_do.Given as goal
 

@@ -1,6 +1,6 @@
 use Rattle.std.proofs.Common.{List, sym, ap, ◌∙◌}
 use Rattle.arti_rows.specs.declared.edits.Edit.{Edit}
-use Rattle.arti_model.specs.Apply.{edits_refusal}
+use Rattle.arti_catalog.specs.Built.{edits_refusal}
 use Rattle.arti_catalog.specs.declared.parts.Parts.{Parts}
 use Rattle.arti_catalog.specs.Held.{Held, items_in, items_of, itself}
 use Rattle.arti_catalog.proofs.Changing.{told_by}
