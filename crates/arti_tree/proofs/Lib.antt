@@ -27,4 +27,6 @@ mod Renaming
 mod Staying
 mod Ordering
 mod Felling
+mod Sorting
+mod Copied
 mod Piecing

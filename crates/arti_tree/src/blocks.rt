@@ -108,4 +108,16 @@ impl Blocks {
             wanted,
         )
     }
+
+    /// The same ids.
+    pub fn copy(&self, alloc: Global) -> Result<Blocks, AllocError>
+        ensures { IfOk result (λ b. b.items ≡ self.now.items) }
+    {
+        let mut copy = Blocks::new(alloc)?;
+        copy.make_room(alloc, self.len())?;
+        for place in 0..self.len() {
+            copy.insert(place, self.get(place));
+        }
+        Ok(copy)
+    }
 }

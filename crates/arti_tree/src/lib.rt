@@ -2,6 +2,7 @@
 #![tactic(auto)]
 
 mod blocks;
+mod copying;
 mod fault;
 mod ids;
 mod keys;

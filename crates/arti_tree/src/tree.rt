@@ -1,7 +1,7 @@
 // The rows of the tree and the lists that are kept of them.
-ghost use Rattle.std.specs.Prelude.{◌≡◌, ◌≢◌, ◌-◌, ◌&&◌, drop, slice_index_or, IfErr, ◌<◌, ◌≤◌, ◌+◌, ◌^◌, vec_len, vec_capacity, List, [], ◌++◌, length, if◌then◌else◌, map, option_map, IfOk, IfSome, IsSome, OnOk, OnErr, Some, None, true, false};
+ghost use Rattle.std.specs.Prelude.{◌≡◌, ◌≢◌, ◌∷◌, ◌-◌, ◌&&◌, drop, slice_index_or, IfErr, ◌<◌, ◌≤◌, ◌+◌, ◌^◌, vec_len, vec_capacity, List, [], ◌++◌, length, if◌then◌else◌, map, option_map, IfOk, IfSome, IsSome, OnOk, OnErr, Some, None, true, false};
 ghost use Rattle.std.specs.Option.{option_map_or, is_none, is_some};
-ghost use Rattle.std.specs.List.{concat, filter, find};
+ghost use Rattle.std.specs.List.{All, concat, filter, find};
 ghost use Rattle.arti_tree.specs.ByKey.{by_key, KeysOnce};
 ghost use Rattle.arti_tree.specs.Pieces.{lists};
 ghost use Rattle.arti_tree.specs.Rows.{Row, ids, row_of, row_at, lies_in, lies_beneath, is_of, rank_of, folder_id, with_row, without_row, may_go, HasFolder, IsFolder, IsLive, IsTree};
@@ -16,6 +16,7 @@ ghost use Rattle.arti_tree.specs.Renames.{AreWithin, is_within, key_for, moved_r
 
 use crate::TreeFault;
 use crate::blocks::Blocks;
+use crate::copying::{copy_children, copy_ids, copy_repos, copy_slots};
 use crate::ids::{add_ready, drop_id, free_id, push_ready};
 use crate::keys::{is_within, moved_key, stays};
 use crate::lists::{Children, enter_both, leave_folder, listed, shift_both};
@@ -71,11 +72,31 @@ impl Tree {
         })
     }
 
+    /// The same rows.
+    pub fn copy(&self, alloc: Global) -> Result<Tree, AllocError>
+        ensures { IfOk result (λ t. t ≡ self.now) }
+    {
+        Ok(Tree {
+            slots: copy_slots(alloc, &self.slots)?,
+            all: copy_ids(alloc, &self.all)?,
+            order: self.order.copy(alloc)?,
+            children: copy_children(&self.children)?,
+            repos: copy_repos(&self.repos)?,
+        })
+    }
+
     /// What holds of the rows of each tree.
     pub fn rules(&self)
         ensures { IsTree self.now }
     {
         let _ = &self.slots;
+    }
+
+    /// All folders above each row are there.
+    pub fn folders_stand(&self)
+        ensures { (r : Row) → IsLive self.now r → All (IsFolder self.now) (folders_above r.key) }
+    {
+        self.rules();
     }
 
     /// The id of a key.
@@ -163,6 +184,18 @@ impl Tree {
         ensures ascend { AscendFrom 0 result.now }
     {
         ids_of(&self.repos, repo)
+    }
+
+    /// The ids of the row of an id and of all beneath it. They ascend.
+    pub fn within(&self, alloc: Global, id: u32) -> Result<Vec<u32>, AllocError>
+        ensures within { IfOk result (λ v. IfSome (row_of self.now id) (λ r. AreWithin self.now r.key v.items)) }
+        ensures none { IfOk result (λ v. row_of self.now id ≡ None → v.items ≡ []) }
+        ensures ascend { IfOk result (λ v. AscendFrom 0 v.items) }
+    {
+        match self.key(id) {
+            Some(from) => self.ids_within(alloc, id, from),
+            None => Ok(Vec::new(alloc)),
+        }
     }
 
     // What is kept under an id.
@@ -512,6 +545,39 @@ impl Tree {
             &ids,
         )?;
         rekey_all(&mut self.slots, &mut self.order, &ids, keys);
+        Ok(())
+    }
+
+    // The ids of the rows within the key of an id. They ascend.
+    fn ids_within(&self, alloc: Global, id: u32, from: &ItemKey) -> Result<Vec<u32>, AllocError>
+        requires live { option_map (λ r. r.key) (row_of self.now id) ≡ Some from.now }
+        ensures within { IfOk result (λ v. AreWithin self.now from.now v.items) }
+        ensures ascend { IfOk result (λ v. AscendFrom 0 v.items) }
+    {
+        let mut found = Vec::new(alloc);
+        found.push(id)?;
+        self.find_beneath(id, from, &mut found)?;
+        found.sort_unstable();
+        Ok(found)
+    }
+
+    // The ids of the rows beneath the key of an id, the first that is found: behind each folder what lies in it.
+    fn find_beneath(&self, id: u32, from: &ItemKey, found: &mut Vec<u32>) -> Result<(), AllocError>
+        requires first { found.old.items ≡ id ∷ [] }
+        requires live { option_map (λ r. r.key) (row_of self.now id) ≡ Some from.now }
+        ensures { OnOk result (AreWithin self.now from.now found.new.items) }
+    {
+        self.rules();
+        from.rules();
+        let mut next = 0usize;
+        'folders: while next < found.len() {
+            let id = found[next];
+            let Some(folder) = self.key(id) else {
+                unreachable!();
+            };
+            found.extend_from_slice(self.inside(id, folder))?;
+            next += 1;
+        }
         Ok(())
     }
 

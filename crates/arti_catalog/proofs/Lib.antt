@@ -1,0 +1,12 @@
+pub mod Found
+pub mod Boxed
+pub mod Adding
+pub mod Setting
+pub mod Keeping
+pub mod Forming
+pub mod Changing
+pub mod Within
+pub mod Gone
+pub mod Each
+pub mod PropsOf
+pub mod Counting
