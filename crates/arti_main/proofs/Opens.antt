@@ -1,5 +1,5 @@
 -- A run from the opening of the store on.
-use Rattle.std.proofs.Common.{◌≡◌, inl, inr, ℕ, ◌≤◌, ℤ, pos, List, [], refl, sym, ap, ◌∙◌, subst, arith}
+use Rattle.std.proofs.Common.{◌≡◌, inl, inr, ℕ, ℤ, pos, List, [], refl, sym, ap, ◌∙◌, subst}
 use Rattle.std.proofs.lemmas.List.{append-nil}
 use Rattle.arti_rows.specs.declared.limits.Limits.{Limits}
 use Rattle.arti_ground.specs.State.{Bytes, State, Passes, AfterSync, IsSound}
@@ -8,9 +8,9 @@ use Rattle.arti_model.specs.Requests as model
 use Rattle.arti_model.specs.Apply.{Holding}
 use Rattle.arti_model.specs.Stock.{Stock}
 use Rattle.arti_model.specs.Run.{moments_from, Recovers}
-use Rattle.arti_store.specs.Store.{View, holding_of, Stands, HoldsStore, Reopening}
+use Rattle.arti_store.specs.Store.{View, holding_of, Stands, HoldsStore, Reopening, shows}
 use Rattle.arti_store.specs.ImageLaws.{read_stands}
-use Rattle.arti_service.specs.Stocks.{stock_of, IsReady}
+use Rattle.arti_service.specs.Stocks.{IsReady}
 use Rattle.arti_service.specs.Talk.{Answers, AtStreamEnd}
 use Rattle.arti_service.specs.Cuts.{Stops}
 use Rattle.arti_service.specs.Moments.{AtMoment}
@@ -41,7 +41,7 @@ module _ (limits : Limits) (start : ℕ) (files : Bytes) (input : List ℕ) (tol
 module _ (one : OneStore) (limits : Limits) (start : ℕ) (input : List ℕ) (old mid new : State) (v : View)
     (was : Stands limits old.files (holding_of (old.files 3) v) v.used) (contents : mid.files 3 ≡ old.files 3) (quiet : mid.told ≡ old.told) where
   abbrev opened : Stock
-  opened = stock_of mid v
+  opened = shows mid v
 
   -- the store that was opened is the one that the files were
   pub the_stock : (s : Stock) → HasStock limits old.files s → opened ≡ s
@@ -74,7 +74,7 @@ module _ (one : OneStore) (limits : Limits) (start : ℕ) (input : List ℕ) (ol
 -- ---- how the conversation's end is the run's
 
 ended : (limits : Limits) (start : ℕ) (s : Stock) (input told told' : List ℕ) (new : State) (v : View) (e : model.Ending)
-    → Answers limits limits.requests (moments_from (pos start) limits.requests) s input told told' (stock_of new v) e → HoldsStore new v → IsReady limits v → Replays limits start s input told told' new.files e
+    → Answers limits limits.requests (moments_from (pos start) limits.requests) s input told told' (shows new v) e → HoldsStore new v → IsReady limits v → Replays limits start s input told told' new.files e
 ended limits start s input told told' new v e a holds ready =
     let answered = a.1 in
     record {
@@ -90,7 +90,7 @@ ended limits start s input told told' new v e a holds ready =
     }
 
 pub at_input_end : (limits : Limits) (start : ℕ) (s : Stock) (input told told' : List ℕ) (new : State) (v : View) (e : Ending)
-    → AtStreamEnd e (Answers limits limits.requests (moments_from (pos start) limits.requests) s input told told' (stock_of new v)) → AtStreamEnd e (λ x. HoldsStore new v) → AtStreamEnd e (λ x. IsReady limits v)
+    → AtStreamEnd e (Answers limits limits.requests (moments_from (pos start) limits.requests) s input told told' (shows new v)) → AtStreamEnd e (λ x. HoldsStore new v) → AtStreamEnd e (λ x. IsReady limits v)
     → AtInputEnd (status_for e) (Replays limits start s input told told' new.files)
 at_input_end limits start s input told told' new v ending.End a h r = ended limits start s input told told' new v model.End a h r
 at_input_end limits start s input told told' new v ending.Cut a h r = inl (ended limits start s input told told' new v model.Cut a h r)
@@ -117,17 +117,17 @@ module _ (one : OneStore) (limits : Limits) (start : ℕ) (input : List ℕ) (ol
     (was : Stands limits old.files (holding_of (old.files 3) v) v.used) (contents : mid.files 3 ≡ old.files 3) (quiet : mid.told ≡ old.told)
     (moments : List ℤ) (clock : moments ≡ moments_from (pos start) limits.requests) where
   abbrev first : Stock
-  first = stock_of mid v
+  first = shows mid v
 
   its_stock : (s : Stock) → HasStock limits old.files s → first ≡ s
   its_stock s has = the_stock one limits start input old mid new v was contents quiet s has
 
-  pub replies_so : (v' : View) (e : Ending) → AtStreamEnd e (Answers limits limits.requests moments first input (mid.told 0) (new.told 0) (stock_of new v'))
+  pub replies_so : (v' : View) (e : Ending) → AtStreamEnd e (Answers limits limits.requests moments first input (mid.told 0) (new.told 0) (shows new v'))
       → AtStreamEnd e (λ x. HoldsStore new v') → AtStreamEnd e (λ x. IsReady limits v')
       → (s : Stock) → HasStock limits old.files s → AtInputEnd (status_for e) (Replays limits start s input (old.told 0) (new.told 0) new.files)
   replies_so v' e a h r s has =
       let told = at_input_end limits start first input (mid.told 0) (new.told 0) new v' e
-      (subst (λ (m : List ℤ). AtStreamEnd e (Answers limits limits.requests m first input (mid.told 0) (new.told 0) (stock_of new v'))) clock a) h r in
+      (subst (λ (m : List ℤ). AtStreamEnd e (Answers limits limits.requests m first input (mid.told 0) (new.told 0) (shows new v'))) clock a) h r in
       subst (λ (t : Bytes). AtInputEnd (status_for e) (Replays limits start s input (t 0) (new.told 0) new.files)) quiet
       (subst (λ (x : Stock). AtInputEnd (status_for e) (Replays limits start x input (mid.told 0) (new.told 0) new.files)) (its_stock s has) told)
 

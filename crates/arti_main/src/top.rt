@@ -1,9 +1,10 @@
 // The top call.
 ghost use Rattle.std.specs.Prelude.{◌≡◌, ◌≢◌, ◌≤◌, ◌⊎◌, ◌↔◌, ℕ, List, map, string_bytes, Some, None};
-ghost use Rattle.arti_ground.specs.State.{AfterSync, Rose};
+ghost use Rattle.arti_ground.specs.State.{AfterSync, Rose, Counts};
 ghost use Rattle.arti_model.specs.Requests as model;
 ghost use Rattle.arti_model.specs.Requests.{Whole, RequestBytes};
 ghost use Rattle.arti_model.specs.Stock.{Stock};
+ghost use Rattle.arti_service.specs.Faults.{CountsTold};
 ghost use Rattle.arti_main.specs.Words.{command_of};
 ghost use Rattle.arti_main.specs.declared.words.Command.TheVariants.{Replay};
 ghost use Rattle.arti_main.specs.Answered.{status_of, HasStock, ToldFor, Replays, AtInputEnd, CutSo, AtAnyMoment};
@@ -101,12 +102,9 @@ fn replay<G: Ground, S: Source, U: Upstream, L: Ledger>(
         → CutSo result limits.now start s (S.left source.old) ((G.state ground.old).told 0) ((G.state ground.new).told 0) }
     ensures crash { G.tells → S.tells → AfterSync (G.state ground.old) (G.state ground.new) (AtAnyMoment limits.now start (G.state ground.old).files (S.left source.old) (G.state ground.old).told) }
     ensures command { result ≢ Status.Usage }
-    ensures tell_fault { result ≡ Status.TellFault → Rose (G.tell_faults ground.old 0) (G.tell_faults ground.new 0) }
-    ensures quiet { result ≢ Status.TellFault → G.tell_faults ground.new ≡ G.tell_faults ground.old }
-    ensures disk_fault { result ≡ Status.DiskFault → Rose (G.disk_faults ground.old) (G.disk_faults ground.new) }
-    ensures disk_quiet { result ≢ Status.DiskFault → G.disk_faults ground.new ≡ G.disk_faults ground.old }
-    ensures source_fault { result ≡ Status.SourceFault → Rose (S.faults source.old) (S.faults source.new) }
-    ensures source_quiet { result ≢ Status.SourceFault → S.faults source.new ≡ S.faults source.old }
+    ensures tell { CountsTold 0 (G.tell_faults ground.old) (G.tell_faults ground.new) (result ≡ Status.TellFault) }
+    ensures disk { Counts (G.disk_faults ground.old) (G.disk_faults ground.new) (result ≡ Status.DiskFault) }
+    ensures source { Counts (S.faults source.old) (S.faults source.new) (result ≡ Status.SourceFault) }
 {
     files_stand_for_one_store();
     let mut store = match Store::open(alloc, ground, limits) {
@@ -149,12 +147,9 @@ pub fn run<G: Ground, S: Source, U: Upstream, C: Clock, L: Ledger, H: Sync>(
         → result ≡ Status.Memory ⊎ ((result ≡ status_of ending) × ToldFor limits.now start s requests ending ((G.state ground.old).told 0) ((G.state ground.new).told 0) (G.state ground.new).files) }
     ensures refused { (start : ℕ) → command_of (map string_bytes words.now) ≡ Some (Replay start) → G.tells → ((s : Stock) → HasStock limits.now (G.state ground.old).files s → ⊥)
         → ¬ Rose (G.disk_faults ground.old) (G.disk_faults ground.new) → result ≡ Status.Memory ⊎ result ≡ Status.NotAStore }
-    ensures tell_fault { result ≡ Status.TellFault → Rose (G.tell_faults ground.old 0) (G.tell_faults ground.new 0) }
-    ensures quiet { result ≢ Status.TellFault → G.tell_faults ground.new ≡ G.tell_faults ground.old }
-    ensures disk_fault { result ≡ Status.DiskFault → Rose (G.disk_faults ground.old) (G.disk_faults ground.new) }
-    ensures disk_quiet { result ≢ Status.DiskFault → G.disk_faults ground.new ≡ G.disk_faults ground.old }
-    ensures source_fault { result ≡ Status.SourceFault → Rose (S.faults source.old) (S.faults source.new) }
-    ensures source_quiet { result ≢ Status.SourceFault → S.faults source.new ≡ S.faults source.old }
+    ensures tell { CountsTold 0 (G.tell_faults ground.old) (G.tell_faults ground.new) (result ≡ Status.TellFault) }
+    ensures disk { Counts (G.disk_faults ground.old) (G.disk_faults ground.new) (result ≡ Status.DiskFault) }
+    ensures source { Counts (S.faults source.old) (S.faults source.new) (result ≡ Status.SourceFault) }
 {
     match command_of(words) {
         Some(command) => {

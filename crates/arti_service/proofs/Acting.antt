@@ -9,19 +9,19 @@ use Rattle.arti_ground.specs.Moments.{passes_map, passes_then}
 use Rattle.arti_model.specs.Apply.{Holding}
 use Rattle.arti_model.specs.Stock.{Stock}
 use Rattle.arti_store.specs.ImageLaws.{store_leaves}
-use Rattle.arti_store.specs.Store.{View, holding_of, Stands, HoldsStore, Standing}
+use Rattle.arti_store.specs.Store.{View, holding_of, Stands, HoldsStore, Standing, shows}
 use Rattle.arti_service.specs.declared.answering.Stop.{Stop}
 use Rattle.arti_service.specs.declared.answering.Stop.TheVariants as stop
 use Rattle.arti_service.specs.Asks.{Tells}
 use Rattle.arti_service.specs.Cuts.{TellsFront, StopsTelling, StoppedIn}
-use Rattle.arti_service.specs.Stocks.{stock_of, IsReady}
+use Rattle.arti_service.specs.Stocks.{IsReady}
 use Rattle.arti_service.specs.Moments.{AtMoment, Telling, During, waits, tells}
 use Rattle.arti_service.specs.Acts.{Acts}
 use Rattle.arti_service.specs.CrashLaws.{image_stands}
 use Rattle.arti_service.proofs.Stops.{stops_telling, stopped_more, tells_in, tells_more, on_ok}
 
 -- a call that leaves the disk leaves the store
-pub leaves_stock : (s s' : State) (v : View) → LeavesDisk s s' → stock_of s' v ≡ stock_of s v
+pub leaves_stock : (s s' : State) (v : View) → LeavesDisk s s' → shows s' v ≡ shows s v
 leaves_stock s s' v disk = ap (λ (f : Bytes). record { holding = holding_of (f 3) v; used = v.used }) disk.files
 
 pub stays : (s s' : State) (v : View) → LeavesDisk s s' → HoldsStore s v → HoldsStore s' v
@@ -30,7 +30,7 @@ stays s s' v disk holds = store_leaves s s' v disk holds
 -- at a moment of telling, in an open store
 pub telling_moment : (limits : Limits) (line : ℕ) (IsOne : List ℕ → Type 0) (reply : List ℕ) (s : State) (v : View) (before : Holding)
     → IsReady limits v → HoldsStore s v → IsOne reply
-    → (c w : Bytes) → Telling s line reply c w → AtMoment limits line s.told (During IsOne before (stock_of s v).holding) c w
+    → (c w : Bytes) → Telling s line reply c w → AtMoment limits line s.told (During IsOne before (shows s v).holding) c w
 telling_moment limits line IsOne reply s v before ready holds one c w here = record {
   told = take here.n reply;
   told_is = here.told;
@@ -46,13 +46,13 @@ pub telling_acts : (limits : Limits) (line : ℕ) (IsOne : List ℕ → Type 0) 
     → OnOk result (s'.told line ≡ s.told line ++ reply)
     → IfErr result (λ stop. StopsTelling stop reply (s.told line) (s'.told line))
     → Passes s s' (Telling s line reply)
-    → Acts limits line IsOne (stock_of s v) result s s' v v
+    → Acts limits line IsOne (shows s v) result s s' v v
 telling_acts limits line IsOne reply result s s' v ready holds one disk told stops time = record {
   told = tells_in result IsOne reply (s.told line) (s'.told line) one told;
-  stock = on_ok result (stock_of s' v ≡ stock_of s v) (leaves_stock s s' v disk);
+  stock = on_ok result (shows s' v ≡ shows s v) (leaves_stock s s' v disk);
   holds = on_ok result (HoldsStore s' v) (stays s s' v disk holds);
   stops = stops_telling result IsOne reply (s.told line) (s'.told line) one stops;
-  moments = passes_map s s' (Telling s line reply) _ (telling_moment limits line IsOne reply s v (stock_of s v).holding ready holds one) time;
+  moments = passes_map s s' (Telling s line reply) _ (telling_moment limits line IsOne reply s v (shows s v).holding ready holds one) time;
 }
 
 -- a fact of moments that is wider
@@ -77,13 +77,13 @@ acts_more limits line P Q behind behind' result s s' v v' wider same a =
       stock = a.stock;
       holds = a.holds;
       stops = stopped_more result P Q (s.told line) (s'.told line) wider a.stops;
-      moments = moments_map limits line s.told s s' _ _ (during_more P Q (stock_of s v).holding behind.holding wider) a.moments;
+      moments = moments_map limits line s.told s s' _ _ (during_more P Q (shows s v).holding behind.holding wider) a.moments;
     })
 
 -- an answer behind calls that told nothing and left what the store has
 pub acts_after : (limits : Limits) (line : ℕ) (IsOne : List ℕ → Type 0) (behind : Stock) (result : Result (Unit {0}) Stop) (s s1 s' : State) (v v1 v' : View)
-    → s1.told ≡ s.told → stock_of s1 v1 ≡ stock_of s v
-    → Passes s s1 (AtMoment limits line s.told (During IsOne (stock_of s v).holding behind.holding))
+    → s1.told ≡ s.told → shows s1 v1 ≡ shows s v
+    → Passes s s1 (AtMoment limits line s.told (During IsOne (shows s v).holding behind.holding))
     → Acts limits line IsOne behind result s1 s' v1 v' → Acts limits line IsOne behind result s s' v v'
 acts_after limits line IsOne behind result s s1 s' v v1 v' quiet same time a = record {
   told = subst (λ (t : Bytes). OnOk result (Tells IsOne (t line) (s'.told line))) quiet a.told;
@@ -92,12 +92,12 @@ acts_after limits line IsOne behind result s s1 s' v v1 v' quiet same time a = r
   stops = subst (λ (t : Bytes). IfErr result (λ stop. StoppedIn stop IsOne (t line) (s'.told line))) quiet a.stops;
   moments = passes_then s s1 s' _ time
       (subst (λ (x : Stock). Passes s1 s' (AtMoment limits line s.told (During IsOne x.holding behind.holding))) same
-      (subst (λ (t : Bytes). Passes s1 s' (AtMoment limits line t (During IsOne (stock_of s1 v1).holding behind.holding))) quiet a.moments));
+      (subst (λ (t : Bytes). Passes s1 s' (AtMoment limits line t (During IsOne (shows s1 v1).holding behind.holding))) quiet a.moments));
 }
 
 -- at a moment of a staging nothing was told, and the store is as before
 pub standing_moment : (limits : Limits) (line : ℕ) (IsOne : List ℕ → Type 0) (behind : Holding) (s : State) (v : View) → IsReady limits v
-    → (c w : Bytes) → Standing s v c w → AtMoment limits line s.told (During IsOne (stock_of s v).holding behind) c w
+    → (c w : Bytes) → Standing s v c w → AtMoment limits line s.told (During IsOne (shows s v).holding behind) c w
 standing_moment limits line IsOne behind s v ready c w here = record {
   told = [];
   told_is = ap (λ (t : Bytes). t line) here.told ∙ sym (append-nil (s.told line));

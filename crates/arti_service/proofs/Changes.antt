@@ -1,7 +1,7 @@
 -- The changes of deploys and fetches: how many bytes they have, and that they aren't refused.
-use Rattle.std.proofs.Common.{◌≡◌, ℕ, suc, ◌+◌, ℤ, Bool, true, false, cond, List, [], ◌∷◌, ◌++◌, length, refl, sym, ap, ◌∙◌, arith, length-append}
-use Rattle.std.specs.Prelude.{All, Contains, Option, Some, None, is_some, not, ◌&&◌, ◌||◌, option_and_then}
-use Rattle.std.proofs.lemmas.List.Elements.{All-cons}
+use Rattle.std.proofs.Common.{◌≡◌, ℕ, suc, ◌+◌, ℤ, Bool, true, false, cond, List, [], ◌∷◌, ◌++◌, length, refl, sym, ap, ◌∙◌, length-append}
+use Rattle.std.specs.Prelude.{Option, Some, None, is_some, not, nat_le, ◌==◌, ◌&&◌, ◌||◌, option_and_then}
+use Rattle.std.proofs.lemmas.List.{length-map}
 use Rattle.std.specs.Int.{w32, w64}
 use Rattle.std.proofs.lemmas.Bool.{false≢true}
 use Rattle.arti_rows.specs.Key.{Key}
@@ -16,9 +16,13 @@ use Rattle.arti_rows.specs.declared.edits.Change.{Change}
 use Rattle.arti_rows.specs.declared.edits.Edit.TheVariants as edits
 use Rattle.arti_codec.specs.Format.{number}
 use Rattle.arti_codec.specs.ChangeBytes as codec
+use Rattle.arti_rows.specs.declared.rows.ItemRow.{ItemRow}
 use Rattle.arti_model.specs.Store.{Item, File, find_item, has_file, same_key, local_key}
-use Rattle.arti_model.specs.Apply.{Holding, is_local, refused_if, refused_below, file_above, has_folder, added_with, passes_limit, first_refusal, refusal}
+use Rattle.arti_model.specs.Apply.{is_local, refused_if, refused_below, file_above, has_folder, added_with, passes_limit, first_refusal, edits_refusal}
+use Rattle.arti_model.specs.Mapped.{item_mapped}
+use Rattle.arti_model.specs.Laws.{has_file_mapped, file_above_mapped, has_folder_mapped, added_mapped}
 use Rattle.arti_model.specs.Decide.{is_barred, file_at}
+use Rattle.arti_store.specs.Items.{file_in, items_of, items_in}
 use Rattle.arti_service.proofs.Thin.{same_texts}
 
 -- ---- a reference has as many bytes wherever it points
@@ -94,12 +98,10 @@ local_is key e = (same_texts key.repo local_key).1 e
 abbrev by_four : Key → Bool → Option Key → Bool → Bool → Option Refusal
 by_four key b1 o b2 b3 = first_refusal (refused_if (not b1) (NoRepo key.repo) (refused_below o (refused_if b2 (FolderHere key) (refused_if b3 (Full Items) None)))) None
 
-pub deploy_accepted : (limits : Limits) (file_of : FileRef → File) (moment : ℤ) (user : List ℕ) (key : Key) (given : Given) (file : FileRef) (h : Holding) → key.repo ≡ local_key
-    → is_barred h.repository.items key ≡ false → passes_limit limits h.repository.items (added_with h.repository.items key) ≡ false
-    → refusal limits file_of (naming moment user key given file) h ≡ None
-unfolding refusal
-deploy_accepted limits file_of moment user key given file h local free room =
-    let items = h.repository.items in
+pub deploy_accepted : (limits : Limits) (file_of : FileRef → FileRef) (moment : ℤ) (user : List ℕ) (key : Key) (given : Given) (file : FileRef) (items : List (Item FileRef)) → key.repo ≡ local_key
+    → is_barred items key ≡ false → passes_limit limits items (added_with items key) ≡ false
+    → edits_refusal limits file_of moment user (edits.File key given file [] ∷ []) items ≡ None
+deploy_accepted limits file_of moment user key given file items local free room =
     let none : file_above items key ≡ None = none_is (file_above items key) (has_folder items key) free in
     let no_folder : has_folder items key ≡ false = second_false (is_some (file_above items key)) (has_folder items key) free in
     ap (λ (b : Bool). by_four key b (file_above items key) (has_folder items key) (passes_limit limits items (added_with items key))) (local_is key local)
@@ -123,18 +125,23 @@ found_file (x ∷ items) key file e = by (same_key x.key key) refl (found_file i
         let later : file_at items key ≡ Some file = ap (λ (b : Bool). option_and_then (λ (item : Item File). item.file) (cond b (Some x) (find_item items key))) (sym other) ∙ e in
         ap (λ (b : Bool). (b && is_some x.file) || has_file items key) other ∙ rest later
 
-pub fetch_accepted : (limits : Limits) (file_of : FileRef → File) (moment : ℤ) (user : List ℕ) (key : Key) (h : Holding) (file : File) → key.repo ≡ local_key → file_at h.repository.items key ≡ Some file
-    → refusal limits file_of (record { moment = moment; user = user; edits = edits.Downloaded key ∷ [] }) h ≡ None
-unfolding refusal
-fetch_accepted limits file_of moment user key h file local found =
-    let items = h.repository.items in
+pub fetch_accepted : (limits : Limits) (file_of : FileRef → FileRef) (moment : ℤ) (user : List ℕ) (key : Key) (rows : List ItemRow) (file : File) → key.repo ≡ local_key → file_at (items_in [] rows) key ≡ Some file
+    → edits_refusal limits file_of moment user (edits.Downloaded key ∷ []) (items_of rows) ≡ None
+fetch_accepted limits file_of moment user key rows file local found =
+    let items = items_of rows in
+    let is_there : has_file items key ≡ true = sym (has_file_mapped (file_in []) items key) ∙ found_file (items_in [] rows) key file found in
     ap (λ (b : Bool). first_refusal (refused_if (not b) (NoRepo key.repo) (refused_if (not (has_file items key)) (NotFound key) None)) None) (local_is key local)
-    ∙ ap (λ (b : Bool). first_refusal (refused_if false (NoRepo key.repo) (refused_if (not b) (NotFound key) None)) None) (found_file items key file found)
+    ∙ ap (λ (b : Bool). first_refusal (refused_if false (NoRepo key.repo) (refused_if (not b) (NotFound key) None)) None) is_there
 
--- ---- the contents that they name
+-- ---- what rows tell alone
 
-pub no_references : (kept : List FileRef) → All (Contains kept) []
-no_references kept = λ i d lt. absurd (omega (arith, lt))
+module _ (bytes : List ℕ) (rows : List ItemRow) (key : Key) where
+  abbrev seen : FileRef → File
+  seen = file_in bytes
 
-pub one_reference : (kept : List FileRef) (file : FileRef) → Contains kept file → All (Contains kept) (file ∷ [])
-one_reference kept file has = All-cons (Contains kept) file [] has (no_references kept)
+  pub barred_seen : is_barred (items_in bytes rows) key ≡ is_barred (items_of rows) key
+  barred_seen = λ i. is_some (file_above_mapped seen (items_of rows) key i) || has_folder_mapped seen (items_of rows) key i
+
+  pub room_seen : (limits : Limits) → passes_limit limits (items_in bytes rows) (added_with (items_in bytes rows) key) ≡ passes_limit limits (items_of rows) (added_with (items_of rows) key)
+  room_seen limits = λ i.
+      not (added_mapped seen (items_of rows) key i == 0) && not (nat_le (length-map (items_of rows) (item_mapped seen) i + added_mapped seen (items_of rows) key i) limits.items)

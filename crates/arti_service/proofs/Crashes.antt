@@ -11,9 +11,9 @@ use Rattle.arti_model.specs.Apply.{Holding}
 use Rattle.arti_model.specs.Stock.{Stock}
 use Rattle.arti_model.specs.Step.{step}
 use Rattle.arti_model.specs.Run.{first_of, IsReply, error_reply, BeginsWith, count_of, accepted_by, HoldsAfter, at_first, behind, Acknowledges, nothing, some, whole, bad, Recovers}
-use Rattle.arti_store.specs.Store.{View, HoldsStore}
+use Rattle.arti_store.specs.Store.{View, HoldsStore, shows}
 use Rattle.arti_service.specs.Cuts.{Standing, AnswersFirst, AnswersSome, none, more}
-use Rattle.arti_service.specs.Stocks.{stock_of, IsReady}
+use Rattle.arti_service.specs.Stocks.{IsReady}
 use Rattle.arti_service.specs.Moments.{AtMoment, Telling, During, waits, tells, DuringOne}
 use Rattle.arti_service.specs.CrashLaws.{image_stands, at_start}
 use Rattle.arti_service.proofs.Acting.{moments_map}
@@ -97,11 +97,11 @@ whole_moments limits line moments moment a b s head n input bytes body rest same
 
 -- while it is told that the bytes are no request
 bad_moment : (limits : Limits) (most : ℕ) (moments : List ℤ) (line : ℕ) (s : State) (v : View) (input : List ℕ) (why : Why) → IsReady limits v → HoldsStore s v
-    → (c w : Bytes) → Telling s line (error_reply why) c w → AtMoment limits line s.told (Recovers limits most moments (stock_of s v) input) c w
+    → (c w : Bytes) → Telling s line (error_reply why) c w → AtMoment limits line s.told (Recovers limits most moments (shows s v) input) c w
 bad_moment limits most moments line s v input why ready holds c w here = record {
   told = take here.n (error_reply why);
   told_is = here.told;
-  holding = (stock_of s v).holding;
+  holding = (shows s v).holding;
   used = v.used;
   stands = image_stands limits s v ready holds c here.was;
   fits = record {
@@ -117,7 +117,7 @@ bad_moment limits most moments line s v input why ready holds c w here = record 
 }
 
 pub bad_moments : (limits : Limits) (most : ℕ) (moments : List ℤ) (line : ℕ) (s s' : State) (v : View) (input : List ℕ) (why : Why) → IsReady limits v → HoldsStore s v
-    → Passes s s' (Telling s line (error_reply why)) → Passes s s' (AtMoment limits line s.told (Recovers limits most moments (stock_of s v) input))
+    → Passes s s' (Telling s line (error_reply why)) → Passes s s' (AtMoment limits line s.told (Recovers limits most moments (shows s v) input))
 bad_moments limits most moments line s s' v input why ready holds time = passes_map s s' _ _ (bad_moment limits most moments line s v input why ready holds) time
 
 -- behind one request that was answered whole

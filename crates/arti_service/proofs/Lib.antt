@@ -2,7 +2,6 @@ mod Pieces
 mod Talks
 mod Stops
 mod Thin
-mod Accepting
 mod Asking
 mod Changes
 mod Commits
@@ -15,4 +14,3 @@ mod Staging
 mod Memory
 pub mod Acting
 pub mod Crashes
-mod Looks

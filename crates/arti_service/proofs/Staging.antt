@@ -6,7 +6,8 @@ use Rattle.arti_ground.specs.State.{Bytes, State, Passes, OnlyReads}
 use Rattle.arti_ground.specs.Moments.{passes_map, passes_then}
 use Rattle.arti_blobs.specs.declared.staging.Staging.{Staging}
 use Rattle.arti_model.specs.Apply.{Holding}
-use Rattle.arti_store.specs.Store.{View, holding_of, Stands, HoldsStore, Standing}
+use Rattle.arti_model.specs.Stock.{Stock}
+use Rattle.arti_store.specs.Store.{View, shows, holding_of, Stands, HoldsStore, Standing}
 use Rattle.arti_store.specs.ImageLaws.{image_stands}
 
 -- a store with that staging
@@ -24,10 +25,10 @@ module _ (s s2 s3 : State) (v v1 v2 : View) (a b : Option Staging) (first : v1 �
   pub begun_time : Passes s s2 (Standing s v1) → Passes s s2 (Standing s v)
   begun_time time = passes_map s s2 _ _ begun_moment time
 
-  pub staged_time : v.closed ≡ None → HoldsStore s2 v2 → holding_of (s2.files 3) v2 ≡ holding_of (s.files 3) v1 → s2.told ≡ s.told → Passes s s2 (Standing s v1) → OnlyReads s2 s3 → Passes s s3 (Standing s v)
-  staged_time still holds holding told time reads =
+  pub staged_time : v.closed ≡ None → HoldsStore s2 v2 → shows s2 v2 ≡ shows s v1 → s2.told ≡ s.told → Passes s s2 (Standing s v1) → OnlyReads s2 s3 → Passes s s3 (Standing s v)
+  staged_time still holds same_shown told time reads =
       let whole = holds (ap (λ (x : View). x.closed) both ∙ still) in
-      let same : holding_of (s2.files 3) v2 ≡ holding_of (s.files 3) v = holding ∙ ap (holding_of (s.files 3)) first in
+      let same : holding_of (s2.files 3) v2 ≡ holding_of (s.files 3) v = ap (λ (x : Stock). x.holding) same_shown ∙ ap (holding_of (s.files 3)) first in
       passes_then s s2 s3 _ (begun_time time)
       (passes_map s2 s3 _ _ (λ c w here. record {
         told = here.1 ∙ told;

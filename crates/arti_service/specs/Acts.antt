@@ -7,7 +7,7 @@ use Rattle.arti_blobs.specs.Contents.{content}
 use Rattle.arti_model.specs.Replies.{IsReplyStatus}
 use Rattle.arti_model.specs.Stock.{Stock, Answer, unchanged, accept}
 use Rattle.arti_store.specs.Items.{file_in}
-use Rattle.arti_store.specs.Store.{View, HoldsStore}
+use Rattle.arti_store.specs.Store.{View, contents_at, shows, HoldsStore}
 use Rattle.arti_service.specs.declared.answering.Stop.{Stop}
 use Rattle.arti_service.specs.declared.act.Act.{Act}
 use Rattle.arti_service.specs.declared.act.Act.TheVariants.{Tell, Send, Commit}
@@ -20,7 +20,6 @@ use Rattle.arti_service.specs.Asks as asks
 use Rattle.arti_service.specs.Cuts.{StoppedIn}
 use Rattle.arti_service.specs.Decisions.{MayMake}
 use Rattle.arti_service.specs.Parts.{rest_of}
-use Rattle.arti_service.specs.Stocks.{stock_of}
 use Rattle.arti_service.specs.Moments.{AtMoment, During}
 
 -- ---- what is left to do
@@ -30,6 +29,9 @@ abbrev pub done_by : List ℕ → Limits → Stock → Act → Answer
 done_by bytes limits s (Tell head body) = unchanged s (head.items ++ body.items)
 done_by bytes limits s (Send head file buffer) = unchanged s (head.items ++ content bytes file)
 done_by bytes limits s (Commit change head file buffer) = accept limits s (file_in bytes) change (head.items ++ rest_of bytes file)
+
+abbrev pub done_at : State → Limits → Stock → Act → Answer
+done_at s = done_by (contents_at s)
 
 -- it may be done over a store, with what was staged
 abbrev pub MayCarryOut : View → Option Staged → Act → Type 0
@@ -76,10 +78,10 @@ IsWholeIn bytes (Makes change reply) = HasWhole bytes reply
 -- before or behind, and for the one behind as soon as a byte was told.
 pub record Acts (limits : Limits) (line : ℕ) (IsOne : List ℕ → Type 0) (behind : Stock) (result : Result (Unit {0}) Stop) (s s' : State) (v v' : View) : Type 0 where
   pub told : OnOk result (asks.Tells IsOne (s.told line) (s'.told line))
-  pub stock : OnOk result (stock_of s' v' ≡ behind)
+  pub stock : OnOk result (shows s' v' ≡ behind)
   pub holds : OnOk result (HoldsStore s' v')
   pub stops : IfErr result (λ stop. StoppedIn stop IsOne (s.told line) (s'.told line))
-  pub moments : Passes s s' (AtMoment limits line s.told (During IsOne (stock_of s v).holding behind.holding))
+  pub moments : Passes s s' (AtMoment limits line s.told (During IsOne (shows s v).holding behind.holding))
 
 -- the one reply of an answer
 abbrev pub ActsFor : Limits → ℕ → Answer → Result (Unit {0}) Stop → State → State → View → View → Type 0

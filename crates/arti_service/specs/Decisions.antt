@@ -4,11 +4,11 @@ use Rattle.arti_rows.specs.declared.limits.Limits.{Limits}
 use Rattle.arti_rows.specs.declared.rows.FileRef.{FileRef}
 use Rattle.arti_rows.specs.declared.edits.Change.{Change}
 use Rattle.arti_rows.specs.declared.refusal.Refusal.{Refusal}
+use Rattle.arti_ground.specs.State.{State}
 use Rattle.arti_blobs.specs.declared.staging.Staged.{Staged}
 use Rattle.arti_blobs.specs.Contents.{content}
 use Rattle.arti_codec.specs.ChangeBytes.{HasBytes}
 use Rattle.arti_model.specs.Store.{File}
-use Rattle.arti_model.specs.Apply.{refusal}
 use Rattle.arti_model.specs.Bodies.{content_kind}
 use Rattle.arti_model.specs.Replies.{IsReplyStatus}
 use Rattle.arti_model.specs.Stock.{Stock, Answer, reference_to}
@@ -16,7 +16,8 @@ use Rattle.arti_model.specs.Decide as model
 use Rattle.arti_model.specs.Perform.{perform}
 use Rattle.arti_store.specs.Items.{file_in}
 use Rattle.arti_store.specs.Changes.{references_of}
-use Rattle.arti_store.specs.Store.{View, holding_of, kept_and}
+use Rattle.arti_store.specs.Store.{View, contents_at, holding_of, shows, judged}
+use Rattle.arti_store.specs.Commit.{MayName}
 use Rattle.arti_service.specs.declared.decision.Body.{Body}
 use Rattle.arti_service.specs.declared.decision.Body.TheVariants.{Json, Kept}
 use Rattle.arti_service.specs.declared.decision.Reply.{Reply}
@@ -38,6 +39,9 @@ decision_in bytes (Refused why) = model.Refused why
 decision_in bytes (Tells reply) = model.Tells (reply_in bytes reply)
 decision_in bytes (Makes change reply) = model.Makes change (file_in bytes) (reply_in bytes reply)
 
+abbrev pub decision_at : State → Decision → model.Decision File
+decision_at s = decision_in (contents_at s)
+
 -- ---- when it may be done
 
 -- a content is a kept one
@@ -51,9 +55,9 @@ pub record MayTell (v : View) (reply : Reply) : Type 0 where
 
 -- the store accepts the change, whose contents are kept ones or the staged one
 pub record MayMake (v : View) (staged : Option Staged) (change : Change) : Type 0 where
-  pub accepted : (bytes : List ℕ) → refusal v.limits (file_in bytes) change (holding_of bytes v) ≡ None
+  pub accepted : judged v change ≡ None
   pub has_bytes : HasBytes change
-  pub references : All (Contains (kept_and v.contents.kept staged)) (references_of change.edits)
+  pub references : All (MayName v.contents.kept staged) (references_of change.edits)
 
 abbrev pub MayDo : View → Option Staged → Decision → Type 0
 MayDo v staged (Refused why) = Unit {0}
@@ -62,9 +66,9 @@ MayDo v staged (Makes change reply) = MayMake v staged change × MayTell v reply
 
 -- ---- that it is what the model decides
 
--- the contents stand whole in those bytes
-abbrev pub AreWhole : List ℕ → List FileRef → Type 0
-AreWhole bytes files = All (λ (file : FileRef). length (content bytes file) ≡ file.len) files
+-- the contents that may be named stand whole in those bytes
+abbrev pub AreWhole : List ℕ → List FileRef → Option Staged → Type 0
+AreWhole bytes kept staged = (file : FileRef) → MayName kept staged file → length (content bytes file) ≡ file.len
 
 -- what an answer leaves and tells
 abbrev pub outcome : Answer → Stock × List ℕ
@@ -84,8 +88,12 @@ abbrev pub asked_over : List ℕ → View → Result model.Ask Refusal → List 
 asked_over bytes v asked body sent moment =
     model.decided (λ file. reference_to file (holding_of bytes v).kept) v.limits (holding_of bytes v).repository asked body sent moment
 
+-- what the model answers over what the store shows
+abbrev pub answered : State → View → Bool → Result model.Ask Refusal → List ℕ → File → ℤ → Answer
+answered s v alone asked body sent moment = perform v.limits (shows s v) alone (asked_over (contents_at s) v asked body sent moment)
+
 -- A decision over a store is as that one, and may be done: whatever bytes the contents file has, where the kept contents and the staged one
 -- stand whole in them.
 pub record Decides (v : View) (staged : Option Staged) (the : List ℕ → model.Decision File) (d : Decision) : Type 0 where
-  pub means : (bytes : List ℕ) → AreWhole bytes (kept_and v.contents.kept staged) → SameDone (decision_in bytes d) (the bytes)
+  pub means : (bytes : List ℕ) → AreWhole bytes v.contents.kept staged → SameDone (decision_in bytes d) (the bytes)
   pub may : MayDo v staged d

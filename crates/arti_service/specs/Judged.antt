@@ -6,12 +6,12 @@ use Rattle.arti_model.specs.Store.{File}
 use Rattle.arti_model.specs.Stock.{reference_to}
 use Rattle.arti_model.specs.Decide.{is_barred}
 use Rattle.arti_model.specs.Decide as model
-use Rattle.arti_store.specs.Items.{items_in}
+use Rattle.arti_store.specs.Items.{items_of}
 use Rattle.arti_store.specs.Store.{View, holding_of}
 
--- nothing is in the way of the item, whatever bytes the contents have
+-- nothing is in the way of the item
 abbrev pub IsFree : View → Key → Type 0
-IsFree v key = (bytes : List ℕ) → is_barred (items_in bytes v.rows) key ≡ false
+IsFree v key = is_barred (items_of v.rows) key ≡ false
 
 -- what the model decides of a deploy of that content over the store
 abbrev pub file_over : List ℕ → View → ℤ → Key → SomeDigests → File → model.Decision File

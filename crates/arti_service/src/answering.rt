@@ -1,7 +1,7 @@
 // One request is answered: what its head asks, what is decided of it, and what is done.
-ghost use Rattle.std.specs.Prelude.{◌≡◌, ◌≢◌, ◌⊎◌, ◌≤◌, ℕ, ℤ, List, length, OnOk, IfOk, IsErrOf, Err, None};
+ghost use Rattle.std.specs.Prelude.{◌≡◌, ◌≢◌, ◌⊎◌, ◌≤◌, ℕ, ℤ, List, length, OnOk, IfOk, IsErrOf, Ok, Err, None};
 ghost use Rattle.arti_rows.specs.declared.limits.Limits.{Limits};
-ghost use Rattle.arti_ground.specs.State.{Rose};
+ghost use Rattle.arti_ground.specs.State.{Counts};
 ghost use Rattle.arti_model.specs.Store.{File, local_key};
 ghost use Rattle.arti_model.specs.Stock.{Stock};
 ghost use Rattle.arti_model.specs.Decide as model;
@@ -9,11 +9,12 @@ ghost use Rattle.arti_model.specs.Decide.{file_of_body};
 ghost use Rattle.arti_model.specs.Perform.{perform};
 ghost use Rattle.arti_model.specs.Step.{step};
 ghost use Rattle.arti_model.specs.Run.{IsReply, memory_reply};
-ghost use Rattle.arti_store.specs.Store.{HoldsStore};
+ghost use Rattle.arti_store.specs.Store.{HoldsStore, shows};
 ghost use Rattle.arti_service.specs.Asks.{asked_is, IsLocal, HasNoBody, MayReply};
-ghost use Rattle.arti_service.specs.Decisions.{AreWhole, Decides, decided_in, asked_over, outcome};
+ghost use Rattle.arti_service.specs.Decisions.{AreWhole, Decides, decided_in, asked_over, answered, outcome};
 ghost use Rattle.arti_service.specs.Acts.{Acts, ActsFor, done_by, MayCarryOut, TellsOnly};
-ghost use Rattle.arti_service.specs.Stocks.{stock_of, IsReady};
+ghost use Rattle.arti_service.specs.Stocks.{IsReady};
+ghost use Rattle.arti_service.specs.Faults.{CountsTold};
 
 use crate::act::{Act, prepare};
 use crate::ask::{Asked, ask_of};
@@ -92,13 +93,11 @@ fn answer_deploy<G: Ground>(
     requires local { key.repo ≡ local_key }
     requires short { length body.now ≤ 67108864 }
     ensures acts { G.tells → ActsFor store.old.limits line
-        (perform store.old.limits (stock_of (G.state ground.old) store.old) alone (decided_in ((G.state ground.old).files 3) store.old (model.Deploy key wanted.now) body.now (file_of_body body.now) moment))
+        (answered (G.state ground.old) store.old alone (Ok (model.Deploy key wanted.now)) body.now (file_of_body body.now) moment)
         result (G.state ground.old) (G.state ground.new) store.old store.new }
     ensures ready { OnOk result (IsReady store.old.limits store.new) }
-    ensures tell_fault { IsErrOf result Stop.Tell → Rose (G.tell_faults ground.old line) (G.tell_faults ground.new line) }
-    ensures quiet { result ≢ Err Stop.Tell → G.tell_faults ground.new ≡ G.tell_faults ground.old }
-    ensures disk_fault { IsErrOf result Stop.Disk → Rose (G.disk_faults ground.old) (G.disk_faults ground.new) }
-    ensures disk_quiet { result ≢ Err Stop.Disk → G.disk_faults ground.new ≡ G.disk_faults ground.old }
+    ensures tell { CountsTold line (G.tell_faults ground.old) (G.tell_faults ground.new) (IsErrOf result Stop.Tell) }
+    ensures disk { Counts (G.disk_faults ground.old) (G.disk_faults ground.new) (IsErrOf result Stop.Disk) }
 {
     let staged = match stage(store, ground, body) {
         Ok(staged) => staged,
@@ -110,7 +109,7 @@ fn answer_deploy<G: Ground>(
 
 // What is left to do for a query.
 fn query_act(alloc: Global, store: &Store, alone: bool, body: &[u8]) -> Result<Act, AllocError>
-    ensures done { IfOk result (λ a. (bytes : List ℕ) (limits : Limits) (s : Stock) (sent : File) (moment : ℤ) → AreWhole bytes store.now.contents.kept
+    ensures done { IfOk result (λ a. (bytes : List ℕ) (limits : Limits) (s : Stock) (sent : File) (moment : ℤ) → AreWhole bytes store.now.contents.kept None
         → outcome (done_by bytes limits s a) ≡ outcome (perform limits s alone (decided_in bytes store.now model.Query body.now sent moment))) }
     ensures tells { IfOk result TellsOnly }
     ensures may { IfOk result (MayCarryOut store.now None) }
@@ -131,15 +130,13 @@ fn answer_query<G: Ground>(
     requires ready { IsReady store.old.limits store.old }
     requires holds { G.tells → HoldsStore (G.state ground.old) store.old }
     ensures acts { G.tells → (sent : File) (moment : ℤ) → Acts store.old.limits line
-        (λ reply. (reply ≡ (perform store.old.limits (stock_of (G.state ground.old) store.old) alone (decided_in ((G.state ground.old).files 3) store.old model.Query body.now sent moment)).reply) ⊎ (reply ≡ memory_reply))
-        (perform store.old.limits (stock_of (G.state ground.old) store.old) alone (decided_in ((G.state ground.old).files 3) store.old model.Query body.now sent moment)).stock
+        (λ reply. (reply ≡ (answered (G.state ground.old) store.old alone (Ok model.Query) body.now sent moment).reply) ⊎ (reply ≡ memory_reply))
+        (answered (G.state ground.old) store.old alone (Ok model.Query) body.now sent moment).stock
         result (G.state ground.old) (G.state ground.new) store.old store.new }
     ensures ready { OnOk result (IsReady store.old.limits store.new) }
     ensures no_memory { result ≢ Err Stop.Memory }
-    ensures tell_fault { IsErrOf result Stop.Tell → Rose (G.tell_faults ground.old line) (G.tell_faults ground.new line) }
-    ensures quiet { result ≢ Err Stop.Tell → G.tell_faults ground.new ≡ G.tell_faults ground.old }
-    ensures disk_fault { IsErrOf result Stop.Disk → Rose (G.disk_faults ground.old) (G.disk_faults ground.new) }
-    ensures disk_quiet { result ≢ Err Stop.Disk → G.disk_faults ground.new ≡ G.disk_faults ground.old }
+    ensures tell { CountsTold line (G.tell_faults ground.old) (G.tell_faults ground.new) (IsErrOf result Stop.Tell) }
+    ensures disk { Counts (G.disk_faults ground.old) (G.disk_faults ground.new) (IsErrOf result Stop.Disk) }
 {
     match query_act(alloc, store, alone, body) {
         Ok(act) => carry_out(alloc, store, ground, line, None, act),
@@ -162,13 +159,11 @@ fn answer_head<G: Ground>(
     requires local { IsLocal asked }
     requires bodiless { HasNoBody asked }
     ensures acts { G.tells → (body : List ℕ) (sent : File) → ActsFor store.old.limits line
-        (perform store.old.limits (stock_of (G.state ground.old) store.old) alone (asked_over ((G.state ground.old).files 3) store.old (asked_is asked) body sent moment))
+        (answered (G.state ground.old) store.old alone (asked_is asked) body sent moment)
         result (G.state ground.old) (G.state ground.new) store.old store.new }
     ensures ready { OnOk result (IsReady store.old.limits store.new) }
-    ensures tell_fault { IsErrOf result Stop.Tell → Rose (G.tell_faults ground.old line) (G.tell_faults ground.new line) }
-    ensures quiet { result ≢ Err Stop.Tell → G.tell_faults ground.new ≡ G.tell_faults ground.old }
-    ensures disk_fault { IsErrOf result Stop.Disk → Rose (G.disk_faults ground.old) (G.disk_faults ground.new) }
-    ensures disk_quiet { result ≢ Err Stop.Disk → G.disk_faults ground.new ≡ G.disk_faults ground.old }
+    ensures tell { CountsTold line (G.tell_faults ground.old) (G.tell_faults ground.new) (IsErrOf result Stop.Tell) }
+    ensures disk { Counts (G.disk_faults ground.old) (G.disk_faults ground.new) (IsErrOf result Stop.Disk) }
 {
     let decision = decide(alloc, store, asked, moment)?;
     perform(alloc, store, ground, line, alone, None, decision)
@@ -190,14 +185,12 @@ fn answer_asked<G: Ground>(
     requires local { IsLocal asked }
     requires short { length body.now ≤ 67108864 }
     ensures acts { G.tells → Acts store.old.limits line
-        (MayReply asked (perform store.old.limits (stock_of (G.state ground.old) store.old) alone (asked_over ((G.state ground.old).files 3) store.old (asked_is asked) body.now (file_of_body body.now) moment)))
-        (perform store.old.limits (stock_of (G.state ground.old) store.old) alone (asked_over ((G.state ground.old).files 3) store.old (asked_is asked) body.now (file_of_body body.now) moment)).stock
+        (MayReply asked (answered (G.state ground.old) store.old alone (asked_is asked) body.now (file_of_body body.now) moment))
+        (answered (G.state ground.old) store.old alone (asked_is asked) body.now (file_of_body body.now) moment).stock
         result (G.state ground.old) (G.state ground.new) store.old store.new }
     ensures ready { OnOk result (IsReady store.old.limits store.new) }
-    ensures tell_fault { IsErrOf result Stop.Tell → Rose (G.tell_faults ground.old line) (G.tell_faults ground.new line) }
-    ensures quiet { result ≢ Err Stop.Tell → G.tell_faults ground.new ≡ G.tell_faults ground.old }
-    ensures disk_fault { IsErrOf result Stop.Disk → Rose (G.disk_faults ground.old) (G.disk_faults ground.new) }
-    ensures disk_quiet { result ≢ Err Stop.Disk → G.disk_faults ground.new ≡ G.disk_faults ground.old }
+    ensures tell { CountsTold line (G.tell_faults ground.old) (G.tell_faults ground.new) (IsErrOf result Stop.Tell) }
+    ensures disk { Counts (G.disk_faults ground.old) (G.disk_faults ground.new) (IsErrOf result Stop.Disk) }
 {
     match asked {
         Asked::Deploy(key, wanted) => answer_deploy(
@@ -249,14 +242,12 @@ pub fn answer<G: Ground>(
     requires holds { G.tells → HoldsStore (G.state ground.old) store.old }
     requires short { length body.now ≤ limits.now.content }
     ensures acts { G.tells → Acts limits.now line
-        (IsReply limits.now (stock_of (G.state ground.old) store.old) (record { head = request.now; body = body.now }) moment)
-        (step limits.now (stock_of (G.state ground.old) store.old) (record { head = request.now; body = body.now }) moment).stock
+        (IsReply limits.now (shows (G.state ground.old) store.old) (record { head = request.now; body = body.now }) moment)
+        (step limits.now (shows (G.state ground.old) store.old) (record { head = request.now; body = body.now }) moment).stock
         result (G.state ground.old) (G.state ground.new) store.old store.new }
     ensures ready { OnOk result (IsReady limits.now store.new) }
-    ensures tell_fault { IsErrOf result Stop.Tell → Rose (G.tell_faults ground.old line) (G.tell_faults ground.new line) }
-    ensures quiet { result ≢ Err Stop.Tell → G.tell_faults ground.new ≡ G.tell_faults ground.old }
-    ensures disk_fault { IsErrOf result Stop.Disk → Rose (G.disk_faults ground.old) (G.disk_faults ground.new) }
-    ensures disk_quiet { result ≢ Err Stop.Disk → G.disk_faults ground.new ≡ G.disk_faults ground.old }
+    ensures tell { CountsTold line (G.tell_faults ground.old) (G.tell_faults ground.new) (IsErrOf result Stop.Tell) }
+    ensures disk { Counts (G.disk_faults ground.old) (G.disk_faults ground.new) (IsErrOf result Stop.Disk) }
 {
     // For the proof alone: a content has at most as many bytes as the record of one may say.
     let _limits = limits;

@@ -1,8 +1,9 @@
 // A request of a stream is read whole and answered.
 ghost use Rattle.std.specs.Prelude.{◌≡◌, ◌≢◌, ◌⊎◌, ◌++◌, ◌<◌, ◌≤◌, ℕ, List, length, IfOk, IfErr, IfSome, OnOk, IsErrOf, Err};
-ghost use Rattle.arti_ground.specs.State.{LeavesDisk, Passes, Rose};
-ghost use Rattle.arti_store.specs.Store.{HoldsStore};
-ghost use Rattle.arti_service.specs.Stocks.{stock_of, IsReady};
+ghost use Rattle.arti_ground.specs.State.{LeavesDisk, Passes, Counts};
+ghost use Rattle.arti_store.specs.Store.{HoldsStore, shows};
+ghost use Rattle.arti_service.specs.Stocks.{IsReady};
+ghost use Rattle.arti_service.specs.Faults.{CountsTold};
 ghost use Rattle.arti_service.specs.Moments.{AtMoment, DuringOne, Telling};
 ghost use Rattle.arti_wire.specs.Framing.{IsInBody, body_left, HasSourceCause};
 ghost use Rattle.arti_wire.specs.declared.wire.Phase.TheVariants.{Between};
@@ -84,11 +85,10 @@ fn tell_bad<G: Ground>(alloc: Global, ground: &mut G, line: u32, why: Why) -> Re
     ensures told { G.tells → OnOk result ((G.state ground.new).told line ≡ (G.state ground.old).told line ++ error_reply why) }
     ensures stops { G.tells → IfErr result (λ stop. StopsTelling stop (error_reply why) ((G.state ground.old).told line) ((G.state ground.new).told line)) }
     ensures time { G.tells → Passes (G.state ground.old) (G.state ground.new) (Telling (G.state ground.old) line (error_reply why)) }
-    ensures tell_fault { IsErrOf result Stop.Tell → Rose (G.tell_faults ground.old line) (G.tell_faults ground.new line) }
-    ensures quiet { result ≢ Err Stop.Tell → G.tell_faults ground.new ≡ G.tell_faults ground.old }
+    ensures tell { CountsTold line (G.tell_faults ground.old) (G.tell_faults ground.new) (IsErrOf result Stop.Tell) }
     ensures no_disk { result ≢ Err Stop.Disk }
-    ensures disk_faults { G.disk_faults ground.new ≡ G.disk_faults ground.old }
-    ensures disk { G.tells → LeavesDisk (G.state ground.old) (G.state ground.new) }
+    ensures disk { G.disk_faults ground.new ≡ G.disk_faults ground.old }
+    ensures leaves { G.tells → LeavesDisk (G.state ground.old) (G.state ground.new) }
 {
     let reply = error_text(alloc, why)?;
     tell(ground, line, &reply)
@@ -101,7 +101,7 @@ fn ending_of(stop: Stop) -> Ending
     ensures disk { result ≡ Ending.Disk → stop ≡ Stop.Disk }
     ensures not_disk { result ≢ Ending.Disk → stop ≢ Stop.Disk }
     ensures fault { IsFault result }
-    ensures source { result ≢ Ending.Source }
+    ensures no_source { result ≢ Ending.Source }
     ensures stop { EndsFor stop result }
 {
     match stop {
@@ -129,24 +129,21 @@ fn answer_next<G: Ground, S: Source, C: Clock>(
     requires within { body_left wire.old.phase ≤ limits.now.content }
     requires ready { IsReady limits.now store.old }
     requires holds { G.tells → HoldsStore (G.state ground.old) store.old }
-    ensures one { G.tells → S.tells → C.tells → OnOk result (AnswersOne limits.now (C.moments clock.old) (C.moments clock.new) (stock_of (G.state ground.old) store.old) (stock_of (G.state ground.new) store.new) request.now (body_left wire.old.phase)
+    ensures one { G.tells → S.tells → C.tells → OnOk result (AnswersOne limits.now (C.moments clock.old) (C.moments clock.new) (shows (G.state ground.old) store.old) (shows (G.state ground.new) store.new) request.now (body_left wire.old.phase)
         (wire.old.ahead ++ S.left source.old) (wire.new.ahead ++ S.left source.new) ((G.state ground.old).told line) ((G.state ground.new).told line)) }
-    ensures cut { G.tells → S.tells → IsErrOf result Ending.Cut → CutsShort (body_left wire.old.phase) (wire.old.ahead ++ S.left source.old) (stock_of (G.state ground.old) store.old) (stock_of (G.state ground.new) store.new) ((G.state ground.old).told line) ((G.state ground.new).told line) }
-    ensures stops { G.tells → S.tells → C.tells → IfErr result (λ ending. StopsInOne ending limits.now (C.moments clock.old) (stock_of (G.state ground.old) store.old) request.now (body_left wire.old.phase)
+    ensures cut { G.tells → S.tells → IsErrOf result Ending.Cut → CutsShort (body_left wire.old.phase) (wire.old.ahead ++ S.left source.old) (shows (G.state ground.old) store.old) (shows (G.state ground.new) store.new) ((G.state ground.old).told line) ((G.state ground.new).told line) }
+    ensures stops { G.tells → S.tells → C.tells → IfErr result (λ ending. StopsInOne ending limits.now (C.moments clock.old) (shows (G.state ground.old) store.old) request.now (body_left wire.old.phase)
         (wire.old.ahead ++ S.left source.old) ((G.state ground.old).told line) ((G.state ground.new).told line)) }
     ensures moments { G.tells → S.tells → C.tells → Passes (G.state ground.old) (G.state ground.new) (AtMoment limits.now line (G.state ground.old).told
-        (DuringOne limits.now (C.moments clock.old) (stock_of (G.state ground.old) store.old) request.now (body_left wire.old.phase) (wire.old.ahead ++ S.left source.old))) }
+        (DuringOne limits.now (C.moments clock.old) (shows (G.state ground.old) store.old) request.now (body_left wire.old.phase) (wire.old.ahead ++ S.left source.old))) }
     ensures ready { OnOk result (IsReady limits.now store.new) }
     ensures holds { G.tells → OnOk result (HoldsStore (G.state ground.new) store.new) }
     ensures cut_ready { IsErrOf result Ending.Cut → (store.new ≡ store.old) × (ground.new ≡ ground.old) }
     ensures phase { OnOk result (wire.new.phase ≡ Between) }
     ensures ends { IfErr result IsCutOrFault }
-    ensures tell_fault { IsErrOf result Ending.Tell → Rose (G.tell_faults ground.old line) (G.tell_faults ground.new line) }
-    ensures quiet { result ≢ Err Ending.Tell → G.tell_faults ground.new ≡ G.tell_faults ground.old }
-    ensures disk_fault { IsErrOf result Ending.Disk → Rose (G.disk_faults ground.old) (G.disk_faults ground.new) }
-    ensures disk_quiet { result ≢ Err Ending.Disk → G.disk_faults ground.new ≡ G.disk_faults ground.old }
-    ensures source_fault { IsErrOf result Ending.Source → Rose (S.faults source.old) (S.faults source.new) }
-    ensures source_quiet { result ≢ Err Ending.Source → S.faults source.new ≡ S.faults source.old }
+    ensures tell { CountsTold line (G.tell_faults ground.old) (G.tell_faults ground.new) (IsErrOf result Ending.Tell) }
+    ensures disk { Counts (G.disk_faults ground.old) (G.disk_faults ground.new) (IsErrOf result Ending.Disk) }
+    ensures source { Counts (S.faults source.old) (S.faults source.new) (IsErrOf result Ending.Source) }
 {
     let body = match read_body(alloc, wire, source, buf) {
         Ok(Some(body)) => body,
@@ -182,25 +179,22 @@ fn turn_on<G: Ground, S: Source, C: Clock>(
     requires ready { IsReady limits.now store.old }
     requires holds { G.tells → HoldsStore (G.state ground.old) store.old }
     ensures turns { G.tells → S.tells → C.tells → (input : List ℕ) → Begins limits.now.content input (Head request.now (body_left wire.old.phase) (wire.old.ahead ++ S.left source.old))
-        → OnOk result (TakesTurn limits.now most (C.moments clock.old) (C.moments clock.new) (stock_of (G.state ground.old) store.old) (stock_of (G.state ground.new) store.new) input (wire.new.ahead ++ S.left source.new) ((G.state ground.old).told line) ((G.state ground.new).told line)) }
+        → OnOk result (TakesTurn limits.now most (C.moments clock.old) (C.moments clock.new) (shows (G.state ground.old) store.old) (shows (G.state ground.new) store.new) input (wire.new.ahead ++ S.left source.new) ((G.state ground.old).told line) ((G.state ground.new).told line)) }
     ensures ends { G.tells → S.tells → C.tells → (input : List ℕ) → Begins limits.now.content input (Head request.now (body_left wire.old.phase) (wire.old.ahead ++ S.left source.old))
-        → IfErr result (λ ending. AtStreamEnd ending (Answers limits.now most (C.moments clock.old) (stock_of (G.state ground.old) store.old) input ((G.state ground.old).told line) ((G.state ground.new).told line) (stock_of (G.state ground.new) store.new))) }
+        → IfErr result (λ ending. AtStreamEnd ending (Answers limits.now most (C.moments clock.old) (shows (G.state ground.old) store.old) input ((G.state ground.old).told line) ((G.state ground.new).told line) (shows (G.state ground.new) store.new))) }
     ensures stops { G.tells → S.tells → C.tells → (input : List ℕ) → Begins limits.now.content input (Head request.now (body_left wire.old.phase) (wire.old.ahead ++ S.left source.old))
-        → IfErr result (λ ending. StopsSo ending limits.now (record { most = most; moments = C.moments clock.old; stock = stock_of (G.state ground.old) store.old; input = input }) ((G.state ground.old).told line) ((G.state ground.new).told line)) }
+        → IfErr result (λ ending. StopsSo ending limits.now (record { most = most; moments = C.moments clock.old; stock = shows (G.state ground.old) store.old; input = input }) ((G.state ground.old).told line) ((G.state ground.new).told line)) }
     ensures moments { G.tells → S.tells → C.tells → (input : List ℕ) → Begins limits.now.content input (Head request.now (body_left wire.old.phase) (wire.old.ahead ++ S.left source.old))
         → Passes (G.state ground.old) (G.state ground.new) (AtMoment limits.now line (G.state ground.old).told
-        (Recovers limits.now most (C.moments clock.old) (stock_of (G.state ground.old) store.old) input)) }
+        (Recovers limits.now most (C.moments clock.old) (shows (G.state ground.old) store.old) input)) }
     ensures ready { OnOk result (IsReady limits.now store.new) }
     ensures holds { G.tells → OnOk result (HoldsStore (G.state ground.new) store.new) }
     ensures still { G.tells → IfErr result (λ ending. AtStreamEnd ending (λ e. HoldsStore (G.state ground.new) store.new)) }
     ensures ended { IfErr result (λ ending. AtStreamEnd ending (λ e. IsReady limits.now store.new)) }
     ensures phase { OnOk result (wire.new.phase ≡ Between) }
-    ensures tell_fault { IsErrOf result Ending.Tell → Rose (G.tell_faults ground.old line) (G.tell_faults ground.new line) }
-    ensures quiet { result ≢ Err Ending.Tell → G.tell_faults ground.new ≡ G.tell_faults ground.old }
-    ensures disk_fault { IsErrOf result Ending.Disk → Rose (G.disk_faults ground.old) (G.disk_faults ground.new) }
-    ensures disk_quiet { result ≢ Err Ending.Disk → G.disk_faults ground.new ≡ G.disk_faults ground.old }
-    ensures source_fault { IsErrOf result Ending.Source → Rose (S.faults source.old) (S.faults source.new) }
-    ensures source_quiet { result ≢ Err Ending.Source → S.faults source.new ≡ S.faults source.old }
+    ensures tell { CountsTold line (G.tell_faults ground.old) (G.tell_faults ground.new) (IsErrOf result Ending.Tell) }
+    ensures disk { Counts (G.disk_faults ground.old) (G.disk_faults ground.new) (IsErrOf result Ending.Disk) }
+    ensures source { Counts (S.faults source.old) (S.faults source.new) (IsErrOf result Ending.Source) }
 {
     let last = request.last;
     match answer_next(
@@ -222,12 +216,11 @@ fn end_bad<G: Ground>(alloc: Global, ground: &mut G, line: u32, why: Why) -> End
     ensures told { G.tells → result ≡ Ending.Bad why → (G.state ground.new).told line ≡ (G.state ground.old).told line ++ error_reply why }
     ensures stops { G.tells → StopsBad result why ((G.state ground.old).told line) ((G.state ground.new).told line) }
     ensures time { G.tells → Passes (G.state ground.old) (G.state ground.new) (Telling (G.state ground.old) line (error_reply why)) }
-    ensures tell_fault { result ≡ Ending.Tell → Rose (G.tell_faults ground.old line) (G.tell_faults ground.new line) }
-    ensures quiet { result ≢ Ending.Tell → G.tell_faults ground.new ≡ G.tell_faults ground.old }
-    ensures source { result ≢ Ending.Source }
+    ensures tell { CountsTold line (G.tell_faults ground.old) (G.tell_faults ground.new) (result ≡ Ending.Tell) }
+    ensures no_source { result ≢ Ending.Source }
     ensures no_disk { result ≢ Ending.Disk }
-    ensures disk_faults { G.disk_faults ground.new ≡ G.disk_faults ground.old }
-    ensures disk { G.tells → LeavesDisk (G.state ground.old) (G.state ground.new) }
+    ensures disk { G.disk_faults ground.new ≡ G.disk_faults ground.old }
+    ensures leaves { G.tells → LeavesDisk (G.state ground.old) (G.state ground.new) }
 {
     match tell_bad(alloc, ground, line, why) {
         Ok(()) => Ending::Bad(why),
@@ -252,25 +245,22 @@ fn turn<G: Ground, S: Source, C: Clock>(
     requires room { 0 < length buf.old }
     requires ready { IsReady limits.now store.old }
     requires holds { G.tells → HoldsStore (G.state ground.old) store.old }
-    ensures turns { G.tells → S.tells → C.tells → OnOk result (TakesTurn limits.now most (C.moments clock.old) (C.moments clock.new) (stock_of (G.state ground.old) store.old) (stock_of (G.state ground.new) store.new)
+    ensures turns { G.tells → S.tells → C.tells → OnOk result (TakesTurn limits.now most (C.moments clock.old) (C.moments clock.new) (shows (G.state ground.old) store.old) (shows (G.state ground.new) store.new)
         (wire.old.ahead ++ S.left source.old) (wire.new.ahead ++ S.left source.new) ((G.state ground.old).told line) ((G.state ground.new).told line)) }
-    ensures ends { G.tells → S.tells → C.tells → IfErr result (λ ending. AtStreamEnd ending (Answers limits.now most (C.moments clock.old) (stock_of (G.state ground.old) store.old) (wire.old.ahead ++ S.left source.old)
-        ((G.state ground.old).told line) ((G.state ground.new).told line) (stock_of (G.state ground.new) store.new))) }
-    ensures stops { G.tells → S.tells → C.tells → IfErr result (λ ending. StopsSo ending limits.now (record { most = most; moments = C.moments clock.old; stock = stock_of (G.state ground.old) store.old; input = wire.old.ahead ++ S.left source.old }) ((G.state ground.old).told line) ((G.state ground.new).told line)) }
+    ensures ends { G.tells → S.tells → C.tells → IfErr result (λ ending. AtStreamEnd ending (Answers limits.now most (C.moments clock.old) (shows (G.state ground.old) store.old) (wire.old.ahead ++ S.left source.old)
+        ((G.state ground.old).told line) ((G.state ground.new).told line) (shows (G.state ground.new) store.new))) }
+    ensures stops { G.tells → S.tells → C.tells → IfErr result (λ ending. StopsSo ending limits.now (record { most = most; moments = C.moments clock.old; stock = shows (G.state ground.old) store.old; input = wire.old.ahead ++ S.left source.old }) ((G.state ground.old).told line) ((G.state ground.new).told line)) }
     ensures moments { G.tells → S.tells → C.tells → Passes (G.state ground.old) (G.state ground.new) (AtMoment limits.now line (G.state ground.old).told
-        (Recovers limits.now most (C.moments clock.old) (stock_of (G.state ground.old) store.old) (wire.old.ahead ++ S.left source.old))) }
+        (Recovers limits.now most (C.moments clock.old) (shows (G.state ground.old) store.old) (wire.old.ahead ++ S.left source.old))) }
     ensures ready { OnOk result (IsReady limits.now store.new) }
     ensures holds { G.tells → OnOk result (HoldsStore (G.state ground.new) store.new) }
     ensures still { G.tells → IfErr result (λ ending. AtStreamEnd ending (λ e. HoldsStore (G.state ground.new) store.new)) }
     ensures ended { IfErr result (λ ending. AtStreamEnd ending (λ e. IsReady limits.now store.new)) }
     ensures some { OnOk result (0 < most) }
     ensures phase { OnOk result (wire.new.phase ≡ Between) }
-    ensures tell_fault { IsErrOf result Ending.Tell → Rose (G.tell_faults ground.old line) (G.tell_faults ground.new line) }
-    ensures quiet { result ≢ Err Ending.Tell → G.tell_faults ground.new ≡ G.tell_faults ground.old }
-    ensures disk_fault { IsErrOf result Ending.Disk → Rose (G.disk_faults ground.old) (G.disk_faults ground.new) }
-    ensures disk_quiet { result ≢ Err Ending.Disk → G.disk_faults ground.new ≡ G.disk_faults ground.old }
-    ensures source_fault { IsErrOf result Ending.Source → Rose (S.faults source.old) (S.faults source.new) }
-    ensures source_quiet { result ≢ Err Ending.Source → S.faults source.new ≡ S.faults source.old }
+    ensures tell { CountsTold line (G.tell_faults ground.old) (G.tell_faults ground.new) (IsErrOf result Ending.Tell) }
+    ensures disk { Counts (G.disk_faults ground.old) (G.disk_faults ground.new) (IsErrOf result Ending.Disk) }
+    ensures source { Counts (S.faults source.old) (S.faults source.new) (IsErrOf result Ending.Source) }
 {
     // For the proof alone: a head that is found is the one thing that the bytes begin with.
     bytes_begin_with_one_thing();
@@ -315,20 +305,17 @@ pub fn converse<G: Ground, S: Source, U: Upstream, C: Clock, L: Ledger>(
 ) -> Ending
     requires ready { IsReady limits.now store.old }
     requires holds { G.tells → HoldsStore (G.state ground.old) store.old }
-    ensures answers { G.tells → S.tells → C.tells → AtStreamEnd result (Answers limits.now limits.now.requests (C.moments clock.old) (stock_of (G.state ground.old) store.old) (S.left source.old)
-        ((G.state ground.old).told line) ((G.state ground.new).told line) (stock_of (G.state ground.new) store.new)) }
-    ensures stops { G.tells → S.tells → C.tells → Stops result limits.now (record { most = limits.now.requests; moments = C.moments clock.old; stock = stock_of (G.state ground.old) store.old; input = S.left source.old })
+    ensures answers { G.tells → S.tells → C.tells → AtStreamEnd result (Answers limits.now limits.now.requests (C.moments clock.old) (shows (G.state ground.old) store.old) (S.left source.old)
+        ((G.state ground.old).told line) ((G.state ground.new).told line) (shows (G.state ground.new) store.new)) }
+    ensures stops { G.tells → S.tells → C.tells → Stops result limits.now (record { most = limits.now.requests; moments = C.moments clock.old; stock = shows (G.state ground.old) store.old; input = S.left source.old })
         ((G.state ground.old).told line) ((G.state ground.new).told line) }
     ensures moments { G.tells → S.tells → C.tells → Passes (G.state ground.old) (G.state ground.new) (AtMoment limits.now line (G.state ground.old).told
-        (Recovers limits.now limits.now.requests (C.moments clock.old) (stock_of (G.state ground.old) store.old) (S.left source.old))) }
+        (Recovers limits.now limits.now.requests (C.moments clock.old) (shows (G.state ground.old) store.old) (S.left source.old))) }
     ensures still { G.tells → AtStreamEnd result (λ e. HoldsStore (G.state ground.new) store.new) }
     ensures ready { AtStreamEnd result (λ e. IsReady limits.now store.new) }
-    ensures tell_fault { result ≡ Ending.Tell → Rose (G.tell_faults ground.old line) (G.tell_faults ground.new line) }
-    ensures quiet { result ≢ Ending.Tell → G.tell_faults ground.new ≡ G.tell_faults ground.old }
-    ensures disk_fault { result ≡ Ending.Disk → Rose (G.disk_faults ground.old) (G.disk_faults ground.new) }
-    ensures disk_quiet { result ≢ Ending.Disk → G.disk_faults ground.new ≡ G.disk_faults ground.old }
-    ensures source_fault { result ≡ Ending.Source → Rose (S.faults source.old) (S.faults source.new) }
-    ensures source_quiet { result ≢ Ending.Source → S.faults source.new ≡ S.faults source.old }
+    ensures tell { CountsTold line (G.tell_faults ground.old) (G.tell_faults ground.new) (result ≡ Ending.Tell) }
+    ensures disk { Counts (G.disk_faults ground.old) (G.disk_faults ground.new) (result ≡ Ending.Disk) }
+    ensures source { Counts (S.faults source.old) (S.faults source.new) (result ≡ Ending.Source) }
 {
     let Ok(mut wire) = Wire::new(alloc) else {
         return Ending::Memory;

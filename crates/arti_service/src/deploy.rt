@@ -1,5 +1,5 @@
 // What is decided of a deploy.
-ghost use Rattle.std.specs.Prelude.{◌≡◌, ◌∷◌, [], ◌≤◌, ℕ, List, length, Contains, Option, Some, None, IfOk};
+ghost use Rattle.std.specs.Prelude.{◌≡◌, ◌∷◌, [], ◌≤◌, ℕ, List, length, Option, Some, None, IfOk};
 ghost use Rattle.arti_rows.specs.Sizes.{most_content};
 ghost use Rattle.arti_codec.specs.ChangeBytes.{HasBytes};
 ghost use Rattle.arti_blobs.specs.declared.staging.Staged.{Staged};
@@ -11,13 +11,13 @@ ghost use Rattle.arti_model.specs.Decide.{anonymous};
 ghost use Rattle.arti_model.specs.Decide as model;
 ghost use Rattle.arti_rows.specs.declared.edits.Edit.TheVariants as edits;
 ghost use Rattle.arti_store.specs.Items.{file_in, items_in};
-ghost use Rattle.arti_store.specs.Store.{kept_and};
+ghost use Rattle.arti_store.specs.Commit.{MayName};
 ghost use Rattle.arti_service.specs.Decisions.{Decides, decided_in};
 ghost use Rattle.arti_service.specs.Judged.{IsFree, file_over};
 
 use crate::bytes::deploy_has_bytes;
 use crate::decision::{Body, Decision, Reply};
-use crate::looking::{file_with, is_barred, passes_limit};
+use crate::looking::file_with;
 use crate::replies;
 use arti_blobs::Staged;
 use arti_route::{given_of, mismatch};
@@ -92,10 +92,10 @@ fn decide_file(
     requires folders { folders.now ≡ folders_above key }
     requires free { IsFree store.now key }
     requires short { file.len ≤ 67108864 }
-    ensures { (staged : Option Staged) → Contains (kept_and store.now.contents.kept staged) file
+    ensures { (staged : Option Staged) → MayName store.now.contents.kept staged file
         → IfOk result (Decides store.now staged (λ bytes. file_over bytes store.now moment key wanted.now (file_in bytes file))) }
 {
-    if passes_limit(store, store.limits(), &key, folders) {
+    if store.passes_limit(&key, folders) {
         return Ok(Decision::Refused(Refusal::NotYet(None)));
     }
     let body = deploy_body(alloc, store, moment, &key, wanted, &file)?;
@@ -120,11 +120,10 @@ pub fn decide_deploy(
 ) -> Result<Decision, AllocError>
     requires local { key.repo ≡ local_key }
     requires short { sent.now.file.len ≤ 67108864 }
-    requires kept { Contains (kept_and store.now.contents.kept (Some sent.now)) sent.now.file }
     ensures { (body : List ℕ) → IfOk result (Decides store.now (Some sent.now) (λ bytes. decided_in bytes store.now (model.Deploy key wanted.now) body (file_in bytes sent.now.file) moment)) }
 {
     let folders = key.folders(alloc)?;
-    if is_barred(store, &key, &folders) {
+    if store.is_barred(&key, &folders) {
         return Ok(Decision::Refused(Refusal::NotYet(None)));
     }
     if let Some(name) = mismatch(wanted, &sent.file.digests) {
@@ -146,7 +145,7 @@ pub fn decide_deploy_found(
     ensures { (body : List ℕ) (sent : File) → IfOk result (Decides store.now None (λ bytes. decided_in bytes store.now (model.DeployFound key wanted.now) body sent moment)) }
 {
     let folders = key.folders(alloc)?;
-    if is_barred(store, &key, &folders) {
+    if store.is_barred(&key, &folders) {
         return Ok(Decision::Refused(Refusal::NotYet(None)));
     }
     let Some(file) = file_with(store, wanted) else {

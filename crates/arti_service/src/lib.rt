@@ -18,6 +18,3 @@ mod telling;
 
 pub use answering::{Stop, answer};
 pub use conversation::{Ending, converse};
-
-#[cfg(test)]
-mod tests;

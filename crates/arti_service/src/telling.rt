@@ -1,6 +1,7 @@
 // Replies are told.
 ghost use Rattle.std.specs.Prelude.{◌≡◌, ◌≢◌, ◌++◌, ℕ, List, OnOk, IfErr, IsErrOf, Err};
-ghost use Rattle.arti_ground.specs.State.{LeavesDisk, Passes, Rose};
+ghost use Rattle.arti_ground.specs.State.{LeavesDisk, Passes};
+ghost use Rattle.arti_service.specs.Faults.{CountsTold};
 ghost use Rattle.arti_model.specs.Run.{memory_reply};
 ghost use Rattle.arti_service.specs.Cuts.{StopsTelling};
 ghost use Rattle.arti_service.specs.Moments.{Telling};
@@ -17,12 +18,11 @@ pub fn tell<G: Ground>(ground: &mut G, line: u32, reply: &[u8]) -> Result<(), St
     ensures told { G.tells → OnOk result ((G.state ground.new).told line ≡ (G.state ground.old).told line ++ reply.now) }
     ensures stops { G.tells → IfErr result (λ stop. StopsTelling stop reply.now ((G.state ground.old).told line) ((G.state ground.new).told line)) }
     ensures time { G.tells → Passes (G.state ground.old) (G.state ground.new) (Telling (G.state ground.old) line reply.now) }
-    ensures tell_fault { IsErrOf result Stop.Tell → Rose (G.tell_faults ground.old line) (G.tell_faults ground.new line) }
-    ensures quiet { result ≢ Err Stop.Tell → G.tell_faults ground.new ≡ G.tell_faults ground.old }
+    ensures tell { CountsTold line (G.tell_faults ground.old) (G.tell_faults ground.new) (IsErrOf result Stop.Tell) }
     ensures no_memory { result ≢ Err Stop.Memory }
     ensures no_disk { result ≢ Err Stop.Disk }
-    ensures disk_faults { G.disk_faults ground.new ≡ G.disk_faults ground.old }
-    ensures disk { G.tells → LeavesDisk (G.state ground.old) (G.state ground.new) }
+    ensures disk { G.disk_faults ground.new ≡ G.disk_faults ground.old }
+    ensures leaves { G.tells → LeavesDisk (G.state ground.old) (G.state ground.new) }
 {
     match ground.tell(line, reply) {
         Err(Failed) => Err(Stop::Tell),
@@ -40,12 +40,11 @@ pub fn tell_parts<G: Ground>(
     ensures told { G.tells → OnOk result ((G.state ground.new).told line ≡ (G.state ground.old).told line ++ (first.now ++ second.now)) }
     ensures stops { G.tells → IfErr result (λ stop. StopsTelling stop (first.now ++ second.now) ((G.state ground.old).told line) ((G.state ground.new).told line)) }
     ensures time { G.tells → Passes (G.state ground.old) (G.state ground.new) (Telling (G.state ground.old) line (first.now ++ second.now)) }
-    ensures tell_fault { IsErrOf result Stop.Tell → Rose (G.tell_faults ground.old line) (G.tell_faults ground.new line) }
-    ensures quiet { result ≢ Err Stop.Tell → G.tell_faults ground.new ≡ G.tell_faults ground.old }
+    ensures tell { CountsTold line (G.tell_faults ground.old) (G.tell_faults ground.new) (IsErrOf result Stop.Tell) }
     ensures no_memory { result ≢ Err Stop.Memory }
     ensures no_disk { result ≢ Err Stop.Disk }
-    ensures disk_faults { G.disk_faults ground.new ≡ G.disk_faults ground.old }
-    ensures disk { G.tells → LeavesDisk (G.state ground.old) (G.state ground.new) }
+    ensures disk { G.disk_faults ground.new ≡ G.disk_faults ground.old }
+    ensures leaves { G.tells → LeavesDisk (G.state ground.old) (G.state ground.new) }
 {
     if second.is_empty() {
         return tell(ground, line, first);
@@ -61,12 +60,11 @@ pub fn tell_memory<G: Ground>(ground: &mut G, line: u32) -> Result<(), Stop>
     ensures told { G.tells → OnOk result ((G.state ground.new).told line ≡ (G.state ground.old).told line ++ memory_reply) }
     ensures stops { G.tells → IfErr result (λ stop. StopsTelling stop memory_reply ((G.state ground.old).told line) ((G.state ground.new).told line)) }
     ensures time { G.tells → Passes (G.state ground.old) (G.state ground.new) (Telling (G.state ground.old) line memory_reply) }
-    ensures tell_fault { IsErrOf result Stop.Tell → Rose (G.tell_faults ground.old line) (G.tell_faults ground.new line) }
-    ensures quiet { result ≢ Err Stop.Tell → G.tell_faults ground.new ≡ G.tell_faults ground.old }
+    ensures tell { CountsTold line (G.tell_faults ground.old) (G.tell_faults ground.new) (IsErrOf result Stop.Tell) }
     ensures no_memory { result ≢ Err Stop.Memory }
     ensures no_disk { result ≢ Err Stop.Disk }
-    ensures disk_faults { G.disk_faults ground.new ≡ G.disk_faults ground.old }
-    ensures disk { G.tells → LeavesDisk (G.state ground.old) (G.state ground.new) }
+    ensures disk { G.disk_faults ground.new ≡ G.disk_faults ground.old }
+    ensures leaves { G.tells → LeavesDisk (G.state ground.old) (G.state ground.new) }
 {
     tell(ground, line, &MEMORY_REPLY)
 }

@@ -1,6 +1,6 @@
 -- What changes make, over the bytes of the contents file.
-use Rattle.std.proofs.Common.{◌≡◌, inl, inr, ℕ, ◌+◌, ◌^◌, ◌≤◌, zero, suc, Bool, true, false, cond, List, [], ◌∷◌, ◌++◌, length, get_or, take, drop, length-take, Bor, Option, Some, None, refl, sym, ◌∙◌, ap, subst, arith}
-use Rattle.std.specs.Prelude.{All, Contains, map, nat_eq, ◌&&◌, ◌≢◌, IfSome, option_map}
+use Rattle.std.proofs.Common.{◌≡◌, inl, inr, ℕ, ◌+◌, ◌^◌, ◌<◌, ◌≤◌, zero, suc, Bool, true, false, cond, List, [], ◌∷◌, ◌++◌, length, get_or, take, drop, length-take, Bor, Option, Some, None, refl, sym, ◌∙◌, ap, subst, arith}
+use Rattle.std.specs.Prelude.{All, Contains, ◌↔◌, map, nat_eq, ◌&&◌, ◌≢◌, IfSome, option_map}
 use Rattle.std.specs.List.{list_any}
 use Rattle.std.specs.Option.{option_copied}
 use Rattle.std.specs.Cmp.Lexicographic.{pointwise, nat_list_eq_equiv, bytes_decides}
@@ -10,12 +10,14 @@ use Rattle.std.proofs.lemmas.List.Elements.{All-nil, All-cons, All-head, All-tai
 use Rattle.std.proofs.lemmas.List.Folds.{list_any_none, list_any_at}
 use Rattle.arti_rows.specs.Key.{Key}
 use Rattle.arti_rows.specs.declared.limits.Limits.{Limits}
+use Rattle.arti_rows.specs.declared.rows.Digests.{Digests}
 use Rattle.arti_rows.specs.declared.rows.FileRef.{FileRef}
 use Rattle.arti_rows.specs.declared.rows.ItemRow.{ItemRow}
 use Rattle.arti_rows.specs.declared.edits.Edit.{Edit}
 use Rattle.arti_rows.specs.declared.edits.Edit.TheVariants as edits
 use Rattle.arti_rows.specs.declared.edits.Change.{Change}
-use Rattle.arti_blobs.specs.Contents.{content, end_of, Keeps}
+use Rattle.arti_blobs.specs.Chains.{no_file}
+use Rattle.arti_blobs.specs.Contents.{content, end_of, Keeps, HasPair}
 use Rattle.arti_model.specs.Store.{Item, File, same_key}
 use Rattle.arti_model.specs.Mapped.{item_mapped, items_mapped}
 use Rattle.arti_model.specs.Laws.{edited_by_mapped}
@@ -244,3 +246,30 @@ found_has kept (row ∷ rows) key all =
 pub copied_has : (P : ItemRow → Type 0) (r : Option (Bor ItemRow)) → IfSome (option_copied r) P → IfSome r (λ b. P b.now)
 copied_has P None h = tt
 copied_has P (Some b) h = h
+
+-- ---- a kept content that is the pair of these bytes and these digests
+
+module _ (bytes wanted : List ℕ) (digests : Digests) where
+  abbrev pair : File
+  pair = record { content = wanted; digests = digests }
+
+  pub pair_kept : (kept : List FileRef) → HasPair bytes kept wanted digests → Contains (map (file_in bytes) kept) pair
+  pair_kept kept has =
+      let at = has.is_kept in
+      let same : file_in bytes has.file ≡ pair = (λ i. record { content = has.same_bytes i; digests = has.same_digests i }) in
+      (at.0, omega (arith, length-map kept (file_in bytes), at.1), get_or-map (file_in bytes) kept at.0 has.file pair at.1 ∙ ap (file_in bytes) at.2 ∙ same)
+
+  pub kept_pair : (kept : List FileRef) → Contains (map (file_in bytes) kept) pair → HasPair bytes kept wanted digests
+  kept_pair kept (k, lt, is) =
+      let within : k < length kept = omega (arith, length-map kept (file_in bytes), lt) in
+      let file = get_or kept k no_file in
+      let same : file_in bytes file ≡ pair = sym (get_or-map (file_in bytes) kept k no_file pair within) ∙ is in
+      record {
+        file = file;
+        is_kept = (k, within, get_or_default kept k file no_file within);
+        same_bytes = ap (λ (f : File). f.content) same;
+        same_digests = ap (λ (f : File). f.digests) same;
+      }
+
+  pub pairs_are : (kept : List FileRef) (b : Bool) → (b ≡ false ↔ HasPair bytes kept wanted digests) → (b ≡ false ↔ Contains (map (file_in bytes) kept) pair)
+  pairs_are kept b is = ((λ e. pair_kept kept (is.0 e)), (λ has. is.1 (kept_pair kept has)))

@@ -7,5 +7,4 @@ mod Commits
 mod Openings
 mod Redoing
 mod Lengths
-mod Naming
 mod Shortness

@@ -1,6 +1,6 @@
 -- What is done to rows, in the words of the items that they stand for.
 use Rattle.std.proofs.Common.{◌≡◌, ℕ, ◌+◌, Bool, true, false, cond, List, [], ◌∷◌, ◌++◌, length, Option, Some, None, refl, sym, ◌∙◌, ap, subst, arith}
-use Rattle.std.specs.Prelude.{ℤ, All, Contains, map, filter, not, ◌&&◌, ◌||◌, ◌==◌, nat_le, is_none, option_map}
+use Rattle.std.specs.Prelude.{ℤ, All, Contains, map, filter, not, ◌&&◌, ◌||◌, ◌==◌, nat_le, is_some, is_none, option_map}
 use Rattle.std.specs.List.{find, list_any}
 use Rattle.std.specs.Ordering.{is_lt}
 use Rattle.std.proofs.lemmas.Bool.{and_parts}
@@ -120,21 +120,28 @@ none_found p (x ∷ xs) = by (p x) (none_found p xs)
     by true rest = refl
     by false rest = rest
 
-all_of : (local : Bool) (above : Bool) (taken : Bool) (none_come within : Bool)
-    → (not (not local) && (not above && (not taken && (not (not none_come && not within) && true)))) ≡ (local && not above && not taken && (none_come || within))
-all_of false above taken none_come within = refl
-all_of true true taken none_come within = refl
-all_of true false true none_come within = refl
-all_of true false false true within = refl
-all_of true false false false true = refl
-all_of true false false false false = refl
+all_of : (local above taken passes : Bool) → (not (not local) && (not above && (not taken && (not passes && true)))) ≡ (local && not above && not taken && not passes)
+all_of false above taken passes = refl
+all_of true true taken passes = refl
+all_of true false true passes = refl
+all_of true false false true = refl
+all_of true false false false = refl
+
+not_either : (a b : Bool) → not (a || b) ≡ (not a && not b)
+not_either true b = refl
+not_either false b = refl
 
 module _ (limits : Limits) (rows : List ItemRow) where
   abbrev its : List (Item FileRef)
   its = items_of rows
 
+  pub no_room : (added : ℕ) → not ((added == 0) || nat_le (length rows + added) limits.items) ≡ passes_limit limits its added
+  no_room added =
+      not_either (added == 0) (nat_le (length rows + added) limits.items)
+      ∙ ap (λ n. not (added == 0) && not (nat_le (n + added) limits.items)) (sym (length-map rows item_of_row))
+
   pub put_judged : (key : Key) (taken : Bool) (here : Refusal) → is_none (put_refusal limits its key taken here)
-      ≡ (is_local key && not (list_any (has_file its) (folders_above key)) && not taken && ((added_with its key == 0) || nat_le (length rows + added_with its key) limits.items))
+      ≡ (is_local key && not (list_any (has_file its) (folders_above key)) && not taken && not (passes_limit limits its (added_with its key)))
   put_judged key taken here =
       let passes = passes_limit limits its (added_with its key) in
       let third = refused_if taken here (refused_if passes (Full Items) None) in
@@ -143,8 +150,16 @@ module _ (limits : Limits) (rows : List ItemRow) where
       (none_below (file_above its key) third
       ∙ ap (λ b. b && is_none third) (none_found (has_file its) (folders_above key))
       ∙ ap (λ b. not (list_any (has_file its) (folders_above key)) && b) (none_if taken here (refused_if passes (Full Items) None) ∙ ap (λ b. not taken && b) (none_if passes (Full Items) None)))
-      ∙ ap (λ n. not (not (is_local key)) && (not (list_any (has_file its) (folders_above key)) && (not taken && (not (not (added_with its key == 0) && not (nat_le (n + added_with its key) limits.items)) && true)))) (length-map rows item_of_row)
-      ∙ all_of (is_local key) (list_any (has_file its) (folders_above key)) taken (added_with its key == 0) (nat_le (length rows + added_with its key) limits.items)
+      ∙ all_of (is_local key) (list_any (has_file its) (folders_above key)) taken passes
+
+-- one is found where one passes
+pub found_if : {X : Type 0} (p : X → Bool) (xs : List X) → list_any p xs ≡ is_some (find p xs)
+found_if p [] = refl
+found_if p (x ∷ xs) = by (p x) (found_if p xs)
+  where
+    by : (b : Bool) → list_any p xs ≡ is_some (find p xs) → (b || list_any p xs) ≡ is_some (cond b (Some x) (find p xs))
+    by true rest = refl
+    by false rest = rest
 
 -- ---- the contents of rows are kept
 

@@ -3,15 +3,14 @@ use Rattle.std.proofs.Common.{◌≡◌, inl, inr, ⊎_elim, ℕ, ◌+◌, ◌<�
 use Rattle.std.specs.Prelude.{All, Contains, ◌≢◌, ◌↔◌}
 use Rattle.std.proofs.lemmas.List.{append-nil, drop_more}
 use Rattle.std.proofs.lemmas.List.Elements.{All-nil, All-cons, All-head, All-tail, All-push, Contains-append_left, Contains-push, Contains-push_cases, Contains-get_or, Contains-append_right, Contains-append_cases}
-use Rattle.std.proofs.lemmas.List.Kept.{AllPairs-cons}
+use Rattle.std.proofs.lemmas.List.Quantifiers.{all_pairs_push}
 use Rattle.arti_rows.specs.declared.rows.FileRef.{FileRef}
 use Rattle.arti_rows.specs.declared.edits.Edit.{Edit}
 use Rattle.arti_rows.specs.declared.edits.Change.{Change}
-use Rattle.arti_blobs.specs.declared.staging.Staged.{Staged}
-use Rattle.arti_blobs.specs.Contents.{end_of, Keeps, kept_with}
+use Rattle.arti_blobs.specs.Contents.{end_of, Keeps}
 use Rattle.arti_store.specs.Items.{file_in}
 use Rattle.arti_store.specs.Changes.{edit_references, references_of, references}
-use Rattle.arti_store.specs.Store.{AreDistinct, IsFresh}
+use Rattle.arti_store.specs.Store.{AreDistinct}
 
 -- the kept ones from before stand at the front
 pub keeps_front : (files kept all : List FileRef) → Keeps kept files all → (more : List FileRef) × (all ≡ kept ++ more)
@@ -69,32 +68,14 @@ references-append (change ∷ changes) others =
 pub references-push : (changes : List Change) (change : Change) → references (changes ++ change ∷ []) ≡ references changes ++ references_of change.edits
 references-push changes change = references-append changes (change ∷ []) ∙ ap (λ l. references changes ++ l) (append-nil (references_of change.edits))
 
--- ---- fresh ones
+-- ---- a content that is no kept pair
 
-module _ (bytes : List ℕ) (kept : List FileRef) (file : FileRef) (fresh : IsFresh bytes kept file) where
-  same_pair : (old : FileRef) → Contains kept old → file_in bytes old ≡ file_in bytes file → ⊥
-  same_pair old is same = fresh.new (record { file = old; is_kept = is; same_bytes = ap (λ f. f.content) same; same_digests = ap (λ f. f.digests) same })
-
-  pub fresh_not_kept : Contains kept file → ⊥
-  fresh_not_kept is = same_pair file is refl
+module _ (bytes : List ℕ) (kept : List FileRef) (file : FileRef) (new : All (λ old. file_in bytes old ≢ file_in bytes file) kept) where
+  pub new_not_kept : Contains kept file → ⊥
+  new_not_kept is = new is.0 file is.1 (ap (file_in bytes) is.2)
 
   pub distinct_push : AreDistinct bytes kept → AreDistinct bytes (kept ++ file ∷ [])
-  distinct_push distinct = pairs_push kept distinct (λ k d lt same. same_pair (get_or kept k d) (Contains-get_or kept k d lt) same)
-    where
-      pairs_push : (xs : List FileRef) → AreDistinct bytes xs → All (λ old. file_in bytes old ≢ file_in bytes file) xs → AreDistinct bytes (xs ++ file ∷ [])
-      pairs_push [] distinct all = λ i j d lt within. absurd (omega arith)
-      pairs_push (x ∷ xs) distinct all =
-          AllPairs-cons (λ a b. file_in bytes a ≢ file_in bytes b) x (xs ++ file ∷ [])
-          (All-push (λ b. file_in bytes x ≢ file_in bytes b) xs file (λ k d lt. distinct zero (suc k) d (omega arith) (omega arith)) (All-head (λ old. file_in bytes old ≢ file_in bytes file) x xs all))
-          (pairs_push xs (λ i j d lt within. distinct (suc i) (suc j) d (omega arith) (omega arith)) (All-tail (λ old. file_in bytes old ≢ file_in bytes file) x xs all))
-
--- a staged content is kept already, or it is with it
-pub with_contains : (kept : List FileRef) (staged : Staged) → (staged.fresh ≡ false → Contains kept staged.file) → Contains (kept_with kept staged) staged.file
-with_contains kept staged old = by staged.fresh refl
-  where
-    by : (fresh : Bool) → staged.fresh ≡ fresh → Contains (cond fresh (kept ++ staged.file ∷ []) kept) staged.file
-    by true is = Contains-push kept staged.file
-    by false is = old is
+  distinct_push distinct = all_pairs_push (λ a b. file_in bytes a ≢ file_in bytes b) kept file distinct new
 
 -- a look for one of the references, an edit further
 pub look_on : (es : List Edit) (i : ℕ) (edit : Edit) (wanted : FileRef) → i < length es → get_or es i edit ≡ edit → (Contains (edit_references edit) wanted → ⊥)

@@ -15,7 +15,7 @@ use Rattle.arti_codec.specs.ChangeBytes.{file_ref, file_fields, edit, edit_list,
 use Rattle.arti_model.specs.Store.{Item}
 use Rattle.arti_store.specs.Changes.{edit_references, references_of, references}
 use Rattle.arti_store.specs.Replays.{Replays}
-use Rattle.arti_store.specs.Store.{kept_and, AddsSome}
+use Rattle.arti_store.specs.Commit.{kept_and, AddsSome}
 
 abbrev pub IsShort : FileRef → Type 0
 IsShort file = file.len ≤ most_content

@@ -1,15 +1,23 @@
 -- Laws of images: what the clauses of a store say of each image that a crash may leave.
-use Rattle.std.proofs.Common.{◌≡◌, inl, inr, ℕ, ◌+◌, ◌≤◌, List, [], ◌∷◌, ◌++◌, length, drop, None, sym, ap, subst, arith, length-take, length-drop}
-use Rattle.std.specs.Prelude.{All}
-use Rattle.std.proofs.lemmas.List.Elements.{All-nil, All-push, All-weaker}
+use Rattle.std.proofs.Common.{◌≡◌, inl, inr, ℕ, ◌+◌, ◌≤◌, List, [], ◌∷◌, ◌++◌, length, get_or, drop, Bool, true, false, refl, sym, ◌∙◌, ap, subst, arith, length-take, length-drop}
+use Rattle.std.specs.Prelude.{All, Contains, IfSome, Option, None, Some, is_none}
+use Rattle.std.proofs.lemmas.List.Elements.{All-nil, All-push, All-weaker, All-contains}
 use Rattle.std.proofs.lemmas.List.Sums.{sum_by_push}
+use Rattle.arti_rows.specs.declared.edits.Edit.{Edit}
+use Rattle.arti_rows.specs.declared.edits.Change.{Change}
+use Rattle.arti_rows.specs.declared.refusal.Refusal.{Refusal}
 use Rattle.arti_rows.specs.declared.rows.FileRef.{FileRef}
 use Rattle.arti_ground.specs.State.{Bytes, State, LeavesDisk}
 use Rattle.arti_journal.specs.Journal.{StandsFor}
-use Rattle.arti_blobs.specs.Contents.{content, end_of, Keeps}
-use Rattle.arti_model.specs.Apply.{Holding}
+use Rattle.arti_blobs.specs.declared.staging.Staged.{Staged}
+use Rattle.arti_blobs.specs.Contents.{Contents, content, end_of, Keeps}
+use Rattle.arti_model.specs.Laws.{edits_refusal_mapped}
+use Rattle.arti_model.specs.Apply.{Holding, first_refusal, edit_refusal, edits_refusal, refusal}
+use Rattle.arti_store.specs.Items.{file_in, items_of}
 use Rattle.arti_store.specs.Changes.{references}
-use Rattle.arti_store.specs.Store.{View, holding_of, Makes, Stands, HoldsOpen, HoldsStore}
+use Rattle.arti_store.specs.Replays.{itself}
+use Rattle.arti_store.specs.Store.{View, bytes_at, holding_of, judged, Makes, Stands, HoldsOpen, HoldsStore}
+use Rattle.arti_store.specs.Commit.{MayName, IsStaged, Supplies}
 
 -- ---- HoldsOpen: images stand for the store
 
@@ -96,3 +104,54 @@ contents_whole s v holds =
     let bytes = s.files 3 in
     All-weaker (λ (f : FileRef). f.place + f.len ≤ length bytes) (λ (f : FileRef). length (content bytes f) ≡ f.len) (λ f le. content_length bytes f le) v.contents.kept
     (each_within bytes (references holds.changes) v.contents.kept holds.reads.refer holds.reads.within)
+
+-- ---- judged, Supplies: what a commit asks for
+
+-- a change is judged by rows as it is by what they show
+pub refusal_seen : (bytes : List ℕ) (v : View) (change : Change) → refusal v.limits (file_in bytes) change (holding_of bytes v) ≡ judged v change
+unfolding refusal
+refusal_seen bytes v change = edits_refusal_mapped (file_in bytes) v.limits itself change.moment change.user change.edits (items_of v.rows)
+
+-- a change that names kept contents alone needs no staging
+pub supplies_kept : {tells : Type 0} (s : State) (contents : Contents) (files : List FileRef) → contents.staging ≡ None → All (Contains contents.kept) files → Supplies tells s contents None files
+supplies_kept s contents files unstaged named = record { unstaged = unstaged; named = named; content = tt }
+
+-- one that names others of the same
+pub supplies_more : {tells : Type 0} (s : State) (contents : Contents) (staged : Option Staged) (files others : List FileRef)
+    → Supplies tells s contents staged files → All (MayName contents.kept staged) others → Supplies tells s contents staged others
+supplies_more s contents staged files others supplies named = record { unstaged = supplies.unstaged; named = named; content = supplies.content }
+
+-- in a ground that tells
+pub supplies_told : {tells : Type 0} (s : State) (contents : Contents) (staged : Option Staged) (files : List FileRef) → tells → Supplies tells s contents staged files → Supplies (Unit {0}) s contents staged files
+supplies_told {tells} s contents staged files told supplies = record { unstaged = supplies.unstaged; named = supplies.named; content = by staged supplies.content }
+  where
+    by : (o : Option Staged) → IfSome o (IsStaged tells s contents.kept) → IfSome o (IsStaged (Unit {0}) s contents.kept)
+    by None tt = tt
+    by (Some staged) is = record { known = is.known; place = is.place; short = is.short; whole = λ x. is.whole told; new = λ x. is.new told }
+
+-- each content that may be named stands whole in the file
+module _ (s : State) (v : View) (holds : HoldsOpen s v) where
+  abbrev IsWhole : FileRef → Type 0
+  IsWhole file = length (bytes_at s file) ≡ file.len
+
+  staged_whole : (staged : Staged) → IsStaged (Unit {0}) s v.contents.kept staged → (fresh : Bool) → staged.fresh ≡ fresh → IsWhole staged.file
+  staged_whole staged is true e = content_length (s.files 3) staged.file (omega (arith, is.place e, is.whole tt e))
+  staged_whole staged is false e = All-contains IsWhole v.contents.kept staged.file (contents_whole s v holds) (is.known e)
+
+  one_whole : (staged : Option Staged) (file : FileRef) → IfSome staged (IsStaged (Unit {0}) s v.contents.kept) → MayName v.contents.kept staged file → IsWhole file
+  one_whole None file is named = All-contains IsWhole v.contents.kept file (contents_whole s v holds) named
+  one_whole (Some staged) file is (inl old) = All-contains IsWhole v.contents.kept file (contents_whole s v holds) old
+  one_whole (Some staged) file is (inr same) = subst IsWhole (sym same) (staged_whole staged is staged.fresh refl)
+
+  pub named_whole : (staged : Option Staged) (files : List FileRef) → Supplies (Unit {0}) s v.contents staged files → All (λ (file : FileRef). length (bytes_at s file) ≡ file.len) files
+  named_whole staged files supplies = λ k d lt. one_whole staged (get_or files k d) supplies.content (supplies.named k d lt)
+
+-- a change of one edit is judged by it alone
+pub judged_one : (v : View) (change : Change) (edit : Edit) → change.edits ≡ edit ∷ [] → is_none (edit_refusal v.limits edit (items_of v.rows)) ≡ true → judged v change ≡ None
+judged_one v change edit one none =
+    ap (λ (es : List Edit). edits_refusal v.limits itself change.moment change.user es (items_of v.rows)) one
+    ∙ by (edit_refusal v.limits edit (items_of v.rows)) none
+  where
+    by : (o : Option Refusal) → is_none o ≡ true → first_refusal o None ≡ None
+    by None e = refl
+    by (Some why) e = cc

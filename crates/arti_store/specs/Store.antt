@@ -1,21 +1,22 @@
 -- What a store is, and what files stand for (of this project).
-use Rattle.std.specs.Prelude.{◌≡◌, ◌≢◌, ◌⊎◌, ℕ, ◌+◌, ◌-◌, ◌^◌, ◌<◌, ◌≤◌, min, List, [], ◌∷◌, length, map, IsTrue, Option, None, Some, AllPairs, Contains}
+use Rattle.std.specs.Prelude.{◌≡◌, ◌≢◌, ℕ, ◌+◌, ◌^◌, ◌≤◌, List, [], ◌∷◌, length, map, Option, None, AllPairs}
 use Rattle.std.specs.List.{AllZip}
 use Rattle.arti_rows.specs.Sizes.{journal_file, contents_file}
 use Rattle.arti_rows.specs.declared.limits.Limits.{Limits}
 use Rattle.arti_rows.specs.declared.rows.FileRef.{FileRef}
 use Rattle.arti_rows.specs.declared.rows.ItemRow.{ItemRow}
 use Rattle.arti_rows.specs.declared.edits.Change.{Change}
+use Rattle.arti_rows.specs.declared.refusal.Refusal.{Refusal}
 use Rattle.arti_ground.specs.State.{Bytes, State}
 use Rattle.arti_journal.specs.Journal.{IsJournal, HoldsJournal, opened}
-use Rattle.arti_blobs.specs.declared.staging.Staged.{Staged}
-use Rattle.arti_blobs.specs.Contents.{Contents, content, end_of, Keeps, HasPair, kept_with, HoldsContents}
+use Rattle.arti_blobs.specs.Contents.{Contents, content, end_of, Keeps, HoldsContents}
 use Rattle.arti_codec.specs.ChangeBytes.{ChangeBytes}
 use Rattle.arti_model.specs.Store.{File}
-use Rattle.arti_model.specs.Apply.{Holding, nothing_kept, apply, apply_all, refusal}
-use Rattle.arti_model.specs.Stock.{most_body}
-use Rattle.arti_store.specs.Items.{file_in, items_in}
+use Rattle.arti_model.specs.Apply.{Holding, nothing_kept, apply, apply_all, edits_refusal, refusal}
+use Rattle.arti_model.specs.Stock.{Stock}
+use Rattle.arti_store.specs.Items.{file_in, items_of, items_in}
 use Rattle.arti_store.specs.Changes.{references}
+use Rattle.arti_store.specs.Replays.{itself}
 
 -- what contracts see of a store: its rows in the default order, its contents, the length that is used of the journal, its limits, how
 -- many commits answered Ok, and the number of the commit that closed it
@@ -27,9 +28,37 @@ pub record View : Type 0 where
   pub commits : ℕ
   pub closed : Option ℕ
 
+-- ---- what a ground shows of a store
+
+-- the bytes of the contents' file
+abbrev pub contents_at : State → List ℕ
+contents_at s = s.files contents_file
+
+-- the bytes of a content
+abbrev pub bytes_at : State → FileRef → List ℕ
+bytes_at s file = content (contents_at s) file
+
+-- the same, with the digests that were recorded of it
+abbrev pub file_at : State → FileRef → File
+file_at s = file_in (s.files contents_file)
+
 -- what a store has, where the file of the contents has these bytes
 abbrev pub holding_of : List ℕ → View → Holding
 holding_of bytes v = record { repository = record { items = items_in bytes v.rows }; kept = map (file_in bytes) v.contents.kept }
+
+-- what the store has
+abbrev pub shows : State → View → Stock
+shows s v = record { holding = holding_of (s.files contents_file) v; used = v.used }
+
+-- the contents stand as they did
+abbrev pub SameContents : State → State → Type 0
+SameContents old new = new.files contents_file ≡ old.files contents_file
+
+-- the refusal of a change, which its rows tell alone
+abbrev pub judged : View → Change → Option Refusal
+judged v change = edits_refusal v.limits itself change.moment change.user change.edits (items_of v.rows)
+
+-- ---- what files stand for
 
 -- each change is accepted after those before it
 abbrev pub Accepted : Limits → (FileRef → File) → List Change → Holding → Type 0
@@ -83,55 +112,3 @@ pub record Standing (start : State) (v : View) (c w : Bytes) : Type 0 where
 pub record Reopening (start : State) (limits : Limits) (c w : Bytes) : Type 0 where
   pub told : w ≡ start.told
   pub image : (h : Holding) (used : ℕ) → Stands limits start.files h used → Stands limits c h used
-
--- ---- commits
-
--- the kept contents, and a staged one that is fresh
-abbrev pub kept_and : List FileRef → Option Staged → List FileRef
-kept_and kept None = kept
-kept_and kept (Some staged) = kept_with kept staged
-
--- a content may be kept: no staging has begun, and a fresh one begins where the kept contents end
-abbrev pub MayKeep : Contents → Option Staged → Type 0
-MayKeep contents None = contents.staging ≡ None
-MayKeep contents (Some staged) =
-    (contents.staging ≡ None) × (IsTrue staged.fresh → staged.file.place ≡ end_of contents.kept) × (end_of (kept_with contents.kept staged) < 2 ^ 63)
-
--- a fresh content stands whole in the file, and no kept one has its bytes and its digests
-pub record IsFresh (bytes : List ℕ) (kept : List FileRef) (file : FileRef) : Type 0 where
-  pub whole : end_of kept + file.len ≤ length bytes
-  pub new : HasPair bytes kept (content bytes file) file.digests → ⊥
-
-abbrev pub IsStaged : List ℕ → List FileRef → Option Staged → Type 0
-IsStaged bytes kept None = Unit {0}
-IsStaged bytes kept (Some staged) = IsTrue staged.fresh → IsFresh bytes kept staged.file
-
--- a fresh content is added where the change names it
-pub record IsAdded (files : List FileRef) (content : Option Staged) (staged : Staged) : Type 0 where
-  pub is : content ≡ Some staged
-  pub fresh : IsTrue staged.fresh
-  pub named : Contains files staged.file
-
--- what is added, or nothing is
-abbrev pub AddsSome : List FileRef → Option Staged → Option Staged → Type 0
-AddsSome files content None = (staged : Staged) → IsAdded files content staged → ⊥
-AddsSome files content (Some staged) = IsAdded files content staged
-
--- the kept contents would pass their limit
-pub record PassesBlobs (v : View) (files : List FileRef) (content : Option Staged) : Type 0 where
-  pub staged : Staged
-  pub added : IsAdded files content staged
-  pub passes : v.limits.blobs < end_of v.contents.kept + staged.file.len
-
--- a journal of which so much is used would pass its limit, or the body is too long for a record
-abbrev pub PassesJournal : Limits → ℕ → List ℕ → Type 0
-PassesJournal limits used body = (most_body < length body) ⊎ (limits.journal < used + 5 + length body)
-
--- a count that rises by one, and stands still at its type's end
-abbrev pub next_of : ℕ → ℕ
-next_of n = min (n + 1) (2 ^ 64 - 1)
-
--- at a moment of a commit: as much was told as at its start, and the image stands for the store before it or after it
-pub record Committing (start : State) (limits : Limits) (before after : Holding) (used longer : ℕ) (c w : Bytes) : Type 0 where
-  pub told : w ≡ start.told
-  pub image : Stands limits c before used ⊎ Stands limits c after longer

@@ -1,23 +1,25 @@
-// The parts of a commit.
-ghost use Rattle.std.specs.Prelude.{◌≡◌, ◌≢◌, ◌↔◌, ◌+◌, ◌^◌, ◌<◌, ◌≤◌, ◌⊎◌, max, ℕ, List, length, Err, IfOk, IfSome, OnOk, OnErr, IsErrOf, IsTrue, All, Contains};
+// What a commit does: its record is written, and then it is taken up in memory.
+ghost use Rattle.std.specs.Prelude.{◌≡◌, ◌≢◌, ◌↔◌, ◌+◌, ◌^◌, ◌<◌, ◌≤◌, ◌⊎◌, max, true, false, ℕ, List, Ok, Err, IfOk, IfSome, OnOk, OnErr, IsErrOf, IsTrue, All, Contains};
 ghost use Rattle.arti_rows.specs.declared.rows.FileRef.{FileRef};
-ghost use Rattle.arti_rows.specs.declared.refusal.Which.{Which};
+ghost use Rattle.arti_ground.specs.State.{Passes, Counts};
+ghost use Rattle.arti_journal.specs.Journal.{HoldsJournal, Appending, Appended};
 ghost use Rattle.arti_blobs.specs.Contents.{Contents, end_of};
-ghost use Rattle.arti_codec.specs.ChangeBytes.{HasBytes, ChangeBytes};
+ghost use Rattle.arti_codec.specs.ChangeBytes as codec;
+ghost use Rattle.arti_codec.specs.ChangeBytes.{HasBytes};
 ghost use Rattle.arti_model.specs.Apply.{edited_by};
-ghost use Rattle.arti_model.specs.Stock.{most_body};
+ghost use Rattle.arti_model.specs.Stock.{most_body, body_length, fills_journal};
 ghost use Rattle.arti_store.specs.Items.{HasFileIn, items_of};
 ghost use Rattle.arti_store.specs.Changes.{edit_references, references_of};
 ghost use Rattle.arti_store.specs.Replays.{itself};
-ghost use Rattle.arti_store.specs.Store.{kept_and, MayKeep, IsAdded, AddsSome};
+ghost use Rattle.arti_store.specs.Commit.{kept_and, MayKeep, AddsSome};
 
-use crate::CommitFault;
 use crate::edits::do_all;
 use crate::rows::Rows;
 use arti_blobs::{Blobs, KeepFault, Staged};
 use arti_codec::encode;
-use arti_journal::{FrameFault, Framed, frame};
-use arti_rows::{Change, Edit, FileRef, Which};
+use arti_ground::Ground;
+use arti_journal::{AppendFault, FrameFault, Framed, Journal, frame};
+use arti_rows::{Change, Edit, FileRef, Limits};
 use std::alloc::{AllocError, Global};
 
 /// The staged content, where it is fresh and the change names it.
@@ -58,22 +60,60 @@ fn is_named(edit: &Edit, wanted: &FileRef) -> bool
     }
 }
 
-/// The body of a change in its frame.
-pub(crate) fn frame_change(alloc: Global, change: &Change) -> Result<Framed, CommitFault>
+/// Why a record wasn't written.
+pub(crate) enum RecordFault {
+    Full,
+    Device,
+    Memory,
+}
+
+/// Writes the record of a change behind those of the journal, where there is room for it.
+pub(crate) fn write_record<G: Ground>(
+    alloc: Global,
+    journal: &mut Journal,
+    ground: &mut G,
+    limits: &Limits,
+    change: &Change,
+) -> Result<(), RecordFault>
+    requires bytes { HasBytes change.now }
+    requires holds { G.tells → (bodies : List (List ℕ)) × HoldsJournal (G.state ground.old) journal.old.file journal.old.used bodies }
+    ensures ok { G.tells → OnOk result ((bodies : List (List ℕ)) → HoldsJournal (G.state ground.old) journal.old.file journal.old.used bodies
+        → Appended (G.state ground.old) (G.state ground.new) journal.old.file journal.old.used bodies (codec.change.spell change.now)) }
+    ensures longer { OnOk result (journal.new ≡ record journal.old { used = journal.old.used + 5 + body_length change.now }) }
+    ensures unchanged { OnErr result (journal.new ≡ journal.old) }
+    ensures full { result ≡ Err RecordFault.Full → fills_journal limits.now journal.old.used change.now ≡ true }
+    ensures room { (result ≡ Ok tt) ⊎ (result ≡ Err RecordFault.Device) → fills_journal limits.now journal.old.used change.now ≡ false }
+    ensures not_written { (result ≡ Err RecordFault.Full) ⊎ (result ≡ Err RecordFault.Memory) → ground.new ≡ ground.old }
+    ensures moments { G.tells → (bodies : List (List ℕ)) → HoldsJournal (G.state ground.old) journal.old.file journal.old.used bodies
+        → Passes (G.state ground.old) (G.state ground.new) (Appending (G.state ground.old) journal.old.file bodies (codec.change.spell change.now)) }
+    ensures told { G.tells → (G.state ground.new).told ≡ (G.state ground.old).told }
+    ensures disk { Counts (G.disk_faults ground.old) (G.disk_faults ground.new) (IsErrOf result RecordFault.Device) }
+    ensures tell { G.tell_faults ground.new ≡ G.tell_faults ground.old }
+{
+    let framed = frame_change(alloc, change)?;
+    match journal.append(ground, &framed, limits.journal) {
+        Ok(()) => Ok(()),
+        Err(AppendFault::Full) => Err(RecordFault::Full),
+        Err(AppendFault::Device) => Err(RecordFault::Device),
+    }
+}
+
+// The body of a change in its frame.
+fn frame_change(alloc: Global, change: &Change) -> Result<Framed, RecordFault>
     requires { HasBytes change.now }
-    ensures body { IfOk result (λ f. ChangeBytes f change.now) }
-    ensures fits { IfOk result (λ f. length f ≤ most_body) }
-    ensures too_long { IsErrOf result (CommitFault.Full Which.Journal) → (body : List ℕ) → ChangeBytes body change.now → most_body < length body }
-    ensures only { OnErr result ((result ≡ Err (CommitFault.Full Which.Journal)) ⊎ (result ≡ Err CommitFault.Memory)) }
+    ensures body { IfOk result (λ f. f ≡ codec.change.spell change.now) }
+    ensures fits { IfOk result (λ f. body_length change.now ≤ most_body) }
+    ensures too_long { result ≡ Err RecordFault.Full → most_body < body_length change.now }
+    ensures no_device { result ≢ Err RecordFault.Device }
 {
     let body = match encode(alloc, change) {
-        Err(_) => return Err(CommitFault::Memory),
+        Err(_) => return Err(RecordFault::Memory),
         Ok(body) => body,
     };
     match frame(alloc, body) {
         Ok(framed) => Ok(framed),
-        Err(FrameFault::TooLong) => Err(CommitFault::Full(Which::Journal)),
-        Err(FrameFault::Memory) => Err(CommitFault::Memory),
+        Err(FrameFault::TooLong) => Err(RecordFault::Full),
+        Err(FrameFault::Memory) => Err(RecordFault::Memory),
         Err(FrameFault::Empty) => unreachable!(),
     }
 }

@@ -1,9 +1,9 @@
 // Which edits are accepted.
-ghost use Rattle.std.specs.Prelude.{◌≡◌, ◌+◌, ◌≤◌, ◌&&◌, ◌||◌, ◌==◌, nat_le, ℕ, List, not, filter, length, is_none, IfOk, IsTrue};
+ghost use Rattle.std.specs.Prelude.{◌≡◌, ◌+◌, ◌≤◌, ◌&&◌, ◌||◌, ◌==◌, nat_le, ℕ, List, not, filter, length, is_some, is_none, IfOk};
 ghost use Rattle.std.specs.List.{list_any};
 ghost use Rattle.arti_rows.specs.Key.{folders_above};
 ghost use Rattle.arti_model.specs.Store.{has_item, has_file};
-ghost use Rattle.arti_model.specs.Apply.{is_local, has_folder, added_with, edit_refusal};
+ghost use Rattle.arti_model.specs.Apply.{is_local, file_above, has_folder, added_with, passes_limit, edit_refusal};
 ghost use Rattle.arti_store.specs.Items.{items_of};
 
 use crate::rows::Rows;
@@ -36,7 +36,7 @@ fn may_put(
     taken: bool,
 ) -> Result<bool, AllocError>
     ensures { IfOk result (λ b. b ≡ (is_local key.now && not (list_any (has_file (items_of rows.now)) (folders_above key.now)) && not taken
-        && ((added_with (items_of rows.now) key.now == 0) || nat_le (length rows.now + added_with (items_of rows.now) key.now) limits.now.items))) }
+        && not (passes_limit limits.now (items_of rows.now) (added_with (items_of rows.now) key.now)))) }
 {
     if !is_local(key) {
         return Ok(false);
@@ -45,7 +45,23 @@ fn may_put(
     if has_file_among(rows, &folders) || taken {
         return Ok(false);
     }
-    Ok(has_room(limits, rows, count_with(rows, &folders, key)))
+    Ok(!passes_limit(limits, rows, key, &folders))
+}
+
+/// Whether a file stands above the key, or a folder at it.
+pub(crate) fn is_barred(rows: &Rows, key: &ItemKey, folders: &[ItemKey]) -> bool
+    requires { folders.now ≡ folders_above key.now }
+    ensures { result ≡ (is_some (file_above (items_of rows.now) key.now) || has_folder (items_of rows.now) key.now) }
+{
+    has_file_among(rows, folders) || has_folder(rows, key)
+}
+
+/// Whether the limit of items would be passed with one at the key and the folders above it.
+pub(crate) fn passes_limit(limits: &Limits, rows: &Rows, key: &ItemKey, folders: &[ItemKey]) -> bool
+    requires { folders.now ≡ folders_above key.now }
+    ensures { result ≡ passes_limit limits.now (items_of rows.now) (added_with (items_of rows.now) key.now) }
+{
+    !has_room(limits, rows, count_with(rows, folders, key))
 }
 
 // Whether the key is one of the repository.

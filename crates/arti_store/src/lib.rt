@@ -7,16 +7,10 @@ mod edits;
 mod fault;
 mod judging;
 mod laws;
-mod opening;
-mod replaying;
+mod recovery;
 mod rows;
 mod store;
 
 pub use fault::{CommitFault, ContentFault, OpenFault};
 pub use laws::files_stand_for_one_store;
 pub use store::Store;
-
-#[cfg(test)]
-mod quiet;
-#[cfg(test)]
-mod tests;

@@ -1,30 +1,36 @@
-// The store.
-ghost use Rattle.std.specs.Prelude.{◌≡◌, ◌≢◌, ◌↔◌, ◌⊎◌, ◌+◌, ◌^◌, ◌<◌, ◌≤◌, ◌++◌, ℕ, List, [], length, take, All, Contains, Option, None, Some, Err, IsTrue, IsSome, IfOk, IfErr, IfSome, OnOk, OnErr, IsErrOf, IsSomeAnd, Ok, false, option_map};
+// The store: rows in memory, a journal of changes, and the contents that they name, in files of the ground that is handed in beside it.
+//
+// 1. The content of each row is a kept one: the invariant `files`.
+// 2. While it is open, the files and whatever a crash leaves of them stand for it: `holds`.
+// 3. A crash in a commit leaves the store before it or behind it, and from its Ok on the one behind: `moments`, `holds`.
+// 4. A commit ends as the model's `accept` says of what the store shows: `accepts`.
+// 5. After `Device` and `Memory` it is closed until it is opened again, since 2 may fail: `left`.
+ghost use Rattle.std.specs.Prelude.{◌≡◌, ◌≢◌, ◌↔◌, ◌∷◌, ◌+◌, ◌^◌, ◌<◌, ◌≤◌, ◌++◌, ℕ, List, [], length, All, Contains, None, Some, Err, IsTrue, IsSome, IfOk, IfSome, OnOk, OnErr, IsErrOf, IsSomeAnd, false, ◌||◌, is_some, is_none, option_map};
 ghost use Rattle.std.specs.Option.{option_copied};
-ghost use Rattle.arti_rows.specs.Sizes.{contents_file, most_content};
-ghost use Rattle.arti_rows.specs.declared.rows.FileRef.{FileRef};
-ghost use Rattle.arti_rows.specs.declared.rows.ItemRow.{ItemRow};
-ghost use Rattle.arti_rows.specs.declared.refusal.Which.{Which};
-ghost use Rattle.arti_ground.specs.State.{Bytes, State, Reads, IsDurable, Passes, OnlyReads, AfterSync, HasCause, Rose};
+ghost use Rattle.arti_rows.specs.Key.{folders_above};
+ghost use Rattle.arti_rows.specs.Sizes.{most_content};
+ghost use Rattle.arti_ground.specs.State.{Reads, IsDurable, Passes, OnlyReads, AfterSync, Counts};
 ghost use Rattle.arti_blobs.specs.Digests.{digests_of};
-ghost use Rattle.arti_blobs.specs.Contents.{content, end_of, HasPair, Stages, staged_length, HoldsStaged};
-ghost use Rattle.arti_codec.specs.ChangeBytes.{HasBytes, ChangeBytes};
+ghost use Rattle.arti_blobs.specs.Contents.{end_of, Stages, staged_length, HoldsStaged};
+ghost use Rattle.arti_codec.specs.ChangeBytes.{HasBytes};
 ghost use Rattle.arti_model.specs.Store.{find_item};
-ghost use Rattle.arti_model.specs.Apply.{Holding, apply, refusal};
-ghost use Rattle.arti_store.specs.Items.{InOrder, HasFileIn, file_in, item_in, items_in, find_row};
+ghost use Rattle.arti_model.specs.Apply.{Holding, file_above, has_folder, added_with, passes_limit, edit_refusal};
+ghost use Rattle.arti_model.specs.Stock.{accept};
+ghost use Rattle.arti_store.specs.Items.{InOrder, HasFileIn, item_in, items_of, items_in, find_row};
 ghost use Rattle.arti_store.specs.Changes.{references_of};
-ghost use Rattle.arti_store.specs.Store.{holding_of, Stands, HoldsStore, Standing, Reopening, kept_and, MayKeep, IsStaged, PassesBlobs, PassesJournal, next_of, Committing};
+ghost use Rattle.arti_store.specs.Store.{bytes_at, file_at, shows, SameContents, judged, Stands, HoldsStore, Standing, Reopening};
+ghost use Rattle.arti_store.specs.Commit.{Supplies, EndsAs, LeftBy, RoomSays, Committing};
 
-use crate::commit::{added, frame_change, take_up};
-use crate::opening::open_contents;
-use crate::replaying::replay;
+use crate::commit::{RecordFault, added, take_up, write_record};
+use crate::judging::{accepts, is_barred, passes_limit};
+use crate::recovery::{open_contents, replay};
 use crate::rows::Rows;
 use crate::{CommitFault, ContentFault, OpenFault};
 use arti_blobs::{Blobs, StageFault, Staged};
 use arti_codec::bytes_are_of_one_change;
 use arti_ground::Ground;
-use arti_journal::{AppendFault, Journal, JournalFault, one_list_of_bodies};
-use arti_rows::{Change, FileRef, ItemKey, ItemRow, JOURNAL_FILE, Limits, Which};
+use arti_journal::{Journal, JournalFault, one_list_of_bodies};
+use arti_rows::{Change, Edit, FileRef, ItemKey, ItemRow, JOURNAL_FILE, Limits, Which};
 use std::alloc::{AllocError, Global};
 use std::marker::Model;
 
@@ -64,28 +70,26 @@ impl Store {
     /// store without items.
     pub fn open<G: Ground>(
         alloc: Global,
-        outside: &mut G,
+        ground: &mut G,
         limits: &Limits,
     ) -> Result<Store, OpenFault>
-        ensures stands { G.tells → IfOk result (λ s. Stands limits.now (G.state outside.old).files (holding_of ((G.state outside.old).files contents_file) s) s.used) }
-        ensures none { G.tells → IsErrOf result OpenFault.NotAStore → (h : Holding) (used : ℕ) → Stands limits.now (G.state outside.old).files h used → ⊥ }
-        ensures holds { G.tells → IfOk result (λ s. HoldsStore (G.state outside.new) s) }
-        ensures contents { G.tells → OnOk result ((G.state outside.new).files contents_file ≡ (G.state outside.old).files contents_file) }
+        ensures stands { G.tells → IfOk result (λ s. Stands limits.now (G.state ground.old).files (shows (G.state ground.old) s).holding s.used) }
+        ensures none { G.tells → IsErrOf result OpenFault.NotAStore → (h : Holding) (used : ℕ) → Stands limits.now (G.state ground.old).files h used → ⊥ }
+        ensures holds { G.tells → IfOk result (λ s. HoldsStore (G.state ground.new) s) }
+        ensures contents { G.tells → OnOk result (SameContents (G.state ground.old) (G.state ground.new)) }
         ensures still_open { IfOk result (λ s. s.closed ≡ None) }
         ensures limits { IfOk result (λ s. s.limits ≡ limits.now) }
         ensures commits { IfOk result (λ s. s.commits ≡ 0) }
         ensures staging { IfOk result (λ s. s.contents.staging ≡ None) }
-        ensures durable { G.tells → OnOk result (IsDurable (G.state outside.new)) }
-        ensures told { G.tells → (G.state outside.new).told ≡ (G.state outside.old).told }
-        ensures moments { G.tells → AfterSync (G.state outside.old) (G.state outside.new) (Reopening (G.state outside.old) limits.now) }
-        ensures device { IsErrOf result OpenFault.Device → Rose (G.disk_faults outside.old) (G.disk_faults outside.new) }
-        ensures quiet { result ≢ Err OpenFault.Device → G.disk_faults outside.new ≡ G.disk_faults outside.old }
-        ensures later { G.disk_faults outside.old ≤ G.disk_faults outside.new }
-        ensures tell_faults { G.tell_faults outside.new ≡ G.tell_faults outside.old }
+        ensures durable { G.tells → OnOk result (IsDurable (G.state ground.new)) }
+        ensures told { G.tells → (G.state ground.new).told ≡ (G.state ground.old).told }
+        ensures moments { G.tells → AfterSync (G.state ground.old) (G.state ground.new) (Reopening (G.state ground.old) limits.now) }
+        ensures disk { Counts (G.disk_faults ground.old) (G.disk_faults ground.new) (IsErrOf result OpenFault.Device) }
+        ensures tell { G.tell_faults ground.new ≡ G.tell_faults ground.old }
     {
         one_list_of_bodies();
         bytes_are_of_one_change();
-        let (journal, bodies) = match Journal::open(alloc, outside, JOURNAL_FILE) {
+        let (journal, bodies) = match Journal::open(alloc, ground, JOURNAL_FILE) {
             Err(JournalFault::NotAJournal) => return Err(OpenFault::NotAStore),
             Err(JournalFault::Device) => return Err(OpenFault::Device),
             Err(JournalFault::Memory) => return Err(OpenFault::Memory),
@@ -96,7 +100,7 @@ impl Store {
             Ok(None) => return Err(OpenFault::NotAStore),
             Ok(Some(done)) => done,
         };
-        let blobs = match open_contents(alloc, outside, &files) {
+        let blobs = match open_contents(alloc, ground, &files) {
             Err(fault) => return Err(fault),
             Ok(blobs) => blobs,
         };
@@ -116,84 +120,69 @@ impl Store {
     pub fn commit<G: Ground>(
         &mut self,
         alloc: Global,
-        outside: &mut G,
+        ground: &mut G,
         change: Change,
         content: Option<Staged>,
     ) -> Result<(), CommitFault>
-        requires holds { G.tells → HoldsStore (G.state outside.old) self.old }
-        requires accepted { G.tells → self.old.closed ≡ None
-            → refusal self.old.limits (file_in ((G.state outside.old).files contents_file)) change (holding_of ((G.state outside.old).files contents_file) self.old) ≡ None }
+        requires holds { G.tells → HoldsStore (G.state ground.old) self.old }
+        requires accepted { self.old.closed ≡ None → judged self.old change ≡ None }
         requires bytes { self.old.closed ≡ None → HasBytes change }
-        requires references { self.old.closed ≡ None → All (Contains (kept_and self.old.contents.kept content)) (references_of change.edits) }
-        requires keep { self.old.closed ≡ None → MayKeep self.old.contents content }
-        requires staged { G.tells → self.old.closed ≡ None → IsStaged ((G.state outside.old).files contents_file) self.old.contents.kept content }
+        requires supplies { self.old.closed ≡ None → Supplies G.tells (G.state ground.old) self.old.contents content (references_of change.edits) }
+        ensures accepts { G.tells → self.old.closed ≡ None → (reply : List ℕ) → EndsAs result change reply (shows (G.state ground.old) self.old) (shows (G.state ground.new) self.new)
+            (accept self.old.limits (shows (G.state ground.old) self.old) (file_at (G.state ground.old)) change reply) }
+        ensures moments { G.tells → self.old.closed ≡ None → (reply : List ℕ)
+            → Passes (G.state ground.old) (G.state ground.new) (Committing (G.state ground.old) self.old.limits (shows (G.state ground.old) self.old)
+            (accept self.old.limits (shows (G.state ground.old) self.old) (file_at (G.state ground.old)) change reply).stock) }
+        ensures left { LeftBy result change self.old self.new }
         ensures closed { (n : ℕ) → IsErrOf result (CommitFault.Closed n) ↔ (self.old.closed ≡ Some n) }
-        ensures full_blobs { IsErrOf result (CommitFault.Full Which.Blobs) ↔ ((self.old.closed ≡ None) × PassesBlobs self.old (references_of change.edits) content) }
-        ensures full_journal { IsErrOf result (CommitFault.Full Which.Journal) → (body : List ℕ) → ChangeBytes body change → PassesJournal self.old.limits self.old.used body }
-        ensures full_which { (which : Which) → IsErrOf result (CommitFault.Full which) → (which ≡ Which.Blobs) ⊎ (which ≡ Which.Journal) }
-        ensures within { (result ≡ Ok tt) ⊎ (result ≡ Err CommitFault.Device) → (body : List ℕ) → ChangeBytes body change → PassesJournal self.old.limits self.old.used body → ⊥ }
-        ensures memory { result ≡ Err CommitFault.Memory → (outside.new ≡ outside.old) ⊎ ((body : List ℕ) → ChangeBytes body change → PassesJournal self.old.limits self.old.used body → ⊥) }
-        ensures kept { OnOk result ((file : FileRef) → Contains self.old.contents.kept file → Contains self.new.contents.kept file) }
-        ensures unchanged { OnErr result (result ≢ Err CommitFault.Device → result ≢ Err CommitFault.Memory → self.new ≡ self.old) }
-        ensures not_written { OnErr result (result ≢ Err CommitFault.Device → result ≢ Err CommitFault.Memory → outside.new ≡ outside.old) }
-        ensures failed { (result ≡ Err CommitFault.Device) ⊎ (result ≡ Err CommitFault.Memory) → self.new.closed ≡ Some (next_of self.old.commits) }
-        ensures still_open { OnOk result (self.new.closed ≡ None) }
-        ensures count { OnOk result (self.new.commits ≡ next_of self.old.commits) }
+        ensures room { RoomSays result self.old content change (ground.new ≡ ground.old) }
+        ensures not_written { OnErr result (result ≢ Err CommitFault.Device → result ≢ Err CommitFault.Memory → ground.new ≡ ground.old) }
         ensures limits { self.new.limits ≡ self.old.limits }
-        ensures longer { OnOk result ((body : List ℕ) → ChangeBytes body change → self.new.used ≡ self.old.used + 5 + length body) }
         ensures staging { self.new.contents.staging ≡ self.old.contents.staging }
-        ensures holding { G.tells → OnOk result (holding_of ((G.state outside.new).files contents_file) self.new
-            ≡ apply (file_in ((G.state outside.old).files contents_file)) change (holding_of ((G.state outside.old).files contents_file) self.old)) }
-        ensures contents { G.tells → OnOk result ((G.state outside.new).files contents_file ≡ (G.state outside.old).files contents_file) }
-        ensures holds { G.tells → HoldsStore (G.state outside.new) self.new }
-        ensures durable { G.tells → OnOk result (IsDurable (G.state outside.new)) }
-        ensures moments { G.tells → self.old.closed ≡ None → (body : List ℕ) → ChangeBytes body change
-            → Passes (G.state outside.old) (G.state outside.new) (Committing (G.state outside.old) self.old.limits
-            (holding_of ((G.state outside.old).files contents_file) self.old)
-            (apply (file_in ((G.state outside.old).files contents_file)) change (holding_of ((G.state outside.old).files contents_file) self.old))
-            self.old.used (self.old.used + 5 + length body)) }
-        ensures told { G.tells → (G.state outside.new).told ≡ (G.state outside.old).told }
-        ensures device { IsErrOf result CommitFault.Device → Rose (G.disk_faults outside.old) (G.disk_faults outside.new) }
-        ensures quiet { result ≢ Err CommitFault.Device → G.disk_faults outside.new ≡ G.disk_faults outside.old }
-        ensures later { G.disk_faults outside.old ≤ G.disk_faults outside.new }
-        ensures tell_faults { G.tell_faults outside.new ≡ G.tell_faults outside.old }
+        ensures contents { G.tells → OnOk result (SameContents (G.state ground.old) (G.state ground.new)) }
+        ensures holds { G.tells → HoldsStore (G.state ground.new) self.new }
+        ensures durable { G.tells → OnOk result (IsDurable (G.state ground.new)) }
+        ensures told { G.tells → (G.state ground.new).told ≡ (G.state ground.old).told }
+        ensures disk { Counts (G.disk_faults ground.old) (G.disk_faults ground.new) (IsErrOf result CommitFault.Device) }
+        ensures tell { G.tell_faults ground.new ≡ G.tell_faults ground.old }
     {
         if let Some(n) = self.closed {
             return Err(CommitFault::Closed(n));
         }
+        let number = self.commits.saturating_add(1);
+        // Before the journal is touched, so that a refused change leaves no record.
         let added = added(&change, content);
         if passes(added, self.blobs.kept_length(), self.limits.blobs) {
             return Err(CommitFault::Full(Which::Blobs));
         }
-        let framed = match frame_change(alloc, &change) {
-            Err(CommitFault::Memory) => {
-                self.closed = Some(self.commits.saturating_add(1));
-                return Err(CommitFault::Memory);
-            }
-            Err(fault) => return Err(fault),
-            Ok(framed) => framed,
-        };
-        match self.journal.append(outside, &framed, self.limits.journal) {
-            Err(AppendFault::Full) => return Err(CommitFault::Full(Which::Journal)),
-            Err(AppendFault::Device) => {
-                self.closed = Some(self.commits.saturating_add(1));
+        match write_record(alloc, &mut self.journal, ground, &self.limits, &change) {
+            Ok(()) => {}
+            Err(RecordFault::Full) => return Err(CommitFault::Full(Which::Journal)),
+            // The device may have the record or not, so nothing may follow it.
+            Err(RecordFault::Device) => {
+                self.closed = Some(number);
                 return Err(CommitFault::Device);
             }
-            Ok(()) => {}
+            Err(RecordFault::Memory) => {
+                self.closed = Some(number);
+                return Err(CommitFault::Memory);
+            }
         }
+        // The record is on the device. Where the rows can't follow they aren't those of the files.
         let limit = self.limits.blobs;
-        let taken = take_up(
+        match take_up(
             alloc,
             &mut self.blobs,
             &mut self.rows,
             limit,
             &change,
             added,
-        );
-        let number = self.commits.saturating_add(1);
-        if taken.is_err() {
-            self.closed = Some(number);
-            return Err(CommitFault::Memory);
+        ) {
+            Ok(()) => {}
+            Err(_) => {
+                self.closed = Some(number);
+                return Err(CommitFault::Memory);
+            }
         }
         self.commits = number;
         Ok(())
@@ -202,44 +191,42 @@ impl Store {
     /// Reads the bytes of a kept content from a place in it on, as far as they fit, and none past its end.
     pub fn content<G: Ground>(
         &mut self,
-        outside: &mut G,
+        ground: &mut G,
         file: &FileRef,
         at: u64,
         buf: &mut [u8],
     ) -> Result<usize, ContentFault>
         requires kept { self.old.closed ≡ None → Contains self.old.contents.kept file.now }
-        requires holds { G.tells → HoldsStore (G.state outside.old) self.old }
+        requires holds { G.tells → HoldsStore (G.state ground.old) self.old }
         ensures within { IfOk result (λ n. n ≤ length buf.old) }
-        ensures bytes { G.tells → IfOk result (Reads (content ((G.state outside.old).files contents_file) file.now) at buf.old buf.new) }
+        ensures bytes { G.tells → IfOk result (Reads (bytes_at (G.state ground.old) file.now) at buf.old buf.new) }
         ensures closed { (n : ℕ) → IsErrOf result (ContentFault.Closed n) ↔ (self.old.closed ≡ Some n) }
         ensures unchanged { self.new ≡ self.old }
-        ensures holds { G.tells → HoldsStore (G.state outside.new) self.new }
-        ensures reads { G.tells → OnlyReads (G.state outside.old) (G.state outside.new) }
-        ensures device { IsErrOf result ContentFault.Device → Rose (G.disk_faults outside.old) (G.disk_faults outside.new) }
-        ensures quiet { result ≢ Err ContentFault.Device → G.disk_faults outside.new ≡ G.disk_faults outside.old }
-        ensures later { G.disk_faults outside.old ≤ G.disk_faults outside.new }
-        ensures tell_faults { G.tell_faults outside.new ≡ G.tell_faults outside.old }
+        ensures holds { G.tells → HoldsStore (G.state ground.new) self.new }
+        ensures reads { G.tells → OnlyReads (G.state ground.old) (G.state ground.new) }
+        ensures disk { Counts (G.disk_faults ground.old) (G.disk_faults ground.new) (IsErrOf result ContentFault.Device) }
+        ensures tell { G.tell_faults ground.new ≡ G.tell_faults ground.old }
     {
         if let Some(n) = self.closed {
             return Err(ContentFault::Closed(n));
         }
-        match self.blobs.read(outside, file, at, buf) {
+        match self.blobs.read(ground, file, at, buf) {
             Err(_) => Err(ContentFault::Device),
             Ok(n) => Ok(n),
         }
     }
 
     /// Begins a staging with no bytes. One that isn't ended is given up.
-    pub fn stage_begin<G: Ground>(&mut self, outside: &G)
-        requires { G.tells → HoldsStore (G.state outside.now) self.old }
+    pub fn stage_begin<G: Ground>(&mut self, ground: &G)
+        requires { G.tells → HoldsStore (G.state ground.now) self.old }
         ensures rest { self.new ≡ record self.old { contents = record { kept = self.old.contents.kept; staging = self.new.contents.staging } } }
         ensures begun { IsSome self.new.contents.staging }
         ensures length { staged_length self.new.contents.staging ≡ 0 }
         ensures staged { Stages self.new.contents [] }
-        ensures holds { G.tells → HoldsStore (G.state outside.now) self.new }
-        ensures written { G.tells → HoldsStaged (G.state outside.now) self.new.contents [] }
+        ensures holds { G.tells → HoldsStore (G.state ground.now) self.new }
+        ensures written { G.tells → HoldsStaged (G.state ground.now) self.new.contents [] }
     {
-        let _ = outside;
+        let _ = ground;
         self.blobs.stage_begin();
     }
 
@@ -247,59 +234,55 @@ impl Store {
     /// staging is given up.
     pub fn stage_piece<G: Ground>(
         &mut self,
-        outside: &mut G,
+        ground: &mut G,
         piece: &[u8],
         max: u64,
     ) -> Result<(), StageFault>
         requires begun { IsSome self.old.contents.staging }
         requires max { max < 2 ^ 62 }
         requires still_open { self.old.closed ≡ None }
-        requires holds { G.tells → HoldsStore (G.state outside.old) self.old }
+        requires holds { G.tells → HoldsStore (G.state ground.old) self.old }
         ensures rest { self.new ≡ record self.old { contents = record { kept = self.old.contents.kept; staging = self.new.contents.staging } } }
         ensures begun { OnOk result (IsSome self.new.contents.staging) }
         ensures length { OnOk result (staged_length self.new.contents.staging ≡ staged_length self.old.contents.staging + length piece.now) }
         ensures staged { OnOk result ((bytes : List ℕ) → Stages self.old.contents bytes → Stages self.new.contents (bytes ++ piece.now)) }
-        ensures written { G.tells → OnOk result ((bytes : List ℕ) → HoldsStaged (G.state outside.old) self.old.contents bytes
-            → HoldsStaged (G.state outside.new) self.new.contents (bytes ++ piece.now)) }
+        ensures written { G.tells → OnOk result ((bytes : List ℕ) → HoldsStaged (G.state ground.old) self.old.contents bytes
+            → HoldsStaged (G.state ground.new) self.new.contents (bytes ++ piece.now)) }
         ensures given_up { OnErr result (self.new.contents.staging ≡ None) }
         ensures too_large { IsErrOf result StageFault.TooLarge ↔ (max < staged_length self.old.contents.staging + length piece.now) }
-        ensures not_written { IsErrOf result StageFault.TooLarge → outside.new ≡ outside.old }
-        ensures holding { G.tells → holding_of ((G.state outside.new).files contents_file) self.new ≡ holding_of ((G.state outside.old).files contents_file) self.old }
-        ensures holds { G.tells → HoldsStore (G.state outside.new) self.new }
-        ensures moments { G.tells → Passes (G.state outside.old) (G.state outside.new) (Standing (G.state outside.old) self.old) }
-        ensures told { G.tells → (G.state outside.new).told ≡ (G.state outside.old).told }
-        ensures device { IsErrOf result StageFault.Device → Rose (G.disk_faults outside.old) (G.disk_faults outside.new) }
-        ensures quiet { result ≢ Err StageFault.Device → G.disk_faults outside.new ≡ G.disk_faults outside.old }
-        ensures later { G.disk_faults outside.old ≤ G.disk_faults outside.new }
-        ensures tell_faults { G.tell_faults outside.new ≡ G.tell_faults outside.old }
+        ensures not_written { IsErrOf result StageFault.TooLarge → ground.new ≡ ground.old }
+        ensures shows { G.tells → shows (G.state ground.new) self.new ≡ shows (G.state ground.old) self.old }
+        ensures holds { G.tells → HoldsStore (G.state ground.new) self.new }
+        ensures moments { G.tells → Passes (G.state ground.old) (G.state ground.new) (Standing (G.state ground.old) self.old) }
+        ensures told { G.tells → (G.state ground.new).told ≡ (G.state ground.old).told }
+        ensures disk { Counts (G.disk_faults ground.old) (G.disk_faults ground.new) (IsErrOf result StageFault.Device) }
+        ensures tell { G.tell_faults ground.new ≡ G.tell_faults ground.old }
     {
-        self.blobs.stage_piece(outside, piece, max)
+        self.blobs.stage_piece(ground, piece, max)
     }
 
     /// Ends the staging, and gives what a commit may keep. The content isn't fresh exactly where a kept one has its bytes and its
     /// three digests, and then the answer is that one. After a fault the staging is given up.
-    pub fn stage_end<G: Ground>(&mut self, outside: &mut G) -> Result<Staged, StageFault>
+    pub fn stage_end<G: Ground>(&mut self, ground: &mut G) -> Result<Staged, StageFault>
         requires begun { IsSome self.old.contents.staging }
         requires still_open { self.old.closed ≡ None }
-        requires holds { G.tells → HoldsStore (G.state outside.old) self.old }
+        requires holds { G.tells → HoldsStore (G.state ground.old) self.old }
         ensures ended { self.new ≡ record self.old { contents = record { kept = self.old.contents.kept; staging = None } } }
         ensures length { IfOk result (λ s. s.file.len ≡ staged_length self.old.contents.staging) }
         ensures digests { (bytes : List ℕ) → Stages self.old.contents bytes → IfOk result (λ s. s.file.digests ≡ digests_of bytes) }
-        ensures content { G.tells → (bytes : List ℕ) → HoldsStaged (G.state outside.old) self.old.contents bytes
-            → IfOk result (λ s. content ((G.state outside.new).files contents_file) s.file ≡ bytes) }
-        ensures fresh { G.tells → (bytes : List ℕ) → HoldsStaged (G.state outside.old) self.old.contents bytes
-            → IfOk result (λ s. s.fresh ≡ false ↔ HasPair ((G.state outside.old).files contents_file) self.old.contents.kept bytes (digests_of bytes)) }
-        ensures kept { IfOk result (λ s. Contains (kept_and self.old.contents.kept (Some s)) s.file) }
-        ensures keep { IfOk result (λ s. MayKeep self.new.contents (Some s)) }
-        ensures staged { G.tells → (bytes : List ℕ) → HoldsStaged (G.state outside.old) self.old.contents bytes
-            → IfOk result (λ s. IsStaged ((G.state outside.new).files contents_file) self.new.contents.kept (Some s)) }
-        ensures holds { G.tells → HoldsStore (G.state outside.new) self.new }
-        ensures reads { G.tells → OnlyReads (G.state outside.old) (G.state outside.new) }
+        ensures content { G.tells → (bytes : List ℕ) → HoldsStaged (G.state ground.old) self.old.contents bytes
+            → IfOk result (λ s. bytes_at (G.state ground.new) s.file ≡ bytes) }
+        ensures fresh { G.tells → (bytes : List ℕ) → HoldsStaged (G.state ground.old) self.old.contents bytes
+            → IfOk result (λ s. s.fresh ≡ false ↔ Contains (shows (G.state ground.old) self.old).holding.kept (record { content = bytes; digests = digests_of bytes })) }
+        ensures supplies { (bytes : List ℕ) → (G.tells → HoldsStaged (G.state ground.old) self.old.contents bytes)
+            → IfOk result (λ s. Supplies G.tells (G.state ground.new) self.new.contents (Some s) (s.file ∷ [])) }
+        ensures holds { G.tells → HoldsStore (G.state ground.new) self.new }
+        ensures reads { G.tells → OnlyReads (G.state ground.old) (G.state ground.new) }
         ensures device { OnErr result (result ≡ Err StageFault.Device) }
-        ensures cause { HasCause (G.disk_faults outside.old) (G.disk_faults outside.new) result }
-        ensures tell_faults { G.tell_faults outside.new ≡ G.tell_faults outside.old }
+        ensures disk { Counts (G.disk_faults ground.old) (G.disk_faults ground.new) (IsErrOf result StageFault.Device) }
+        ensures tell { G.tell_faults ground.new ≡ G.tell_faults ground.old }
     {
-        self.blobs.stage_end(outside)
+        self.blobs.stage_end(ground)
     }
 
     /// The row of a key.
@@ -318,6 +301,29 @@ impl Store {
         ensures files { All (HasFileIn self.now.contents.kept) self.now.rows }
     {
         self.rows.as_slice()
+    }
+
+    /// Whether an edit is accepted, which the rows tell alone.
+    pub fn accepts(&self, alloc: Global, edit: &Edit) -> Result<bool, AllocError>
+        ensures { IfOk result (λ b. b ≡ is_none (edit_refusal self.now.limits edit.now (items_of self.now.rows))) }
+    {
+        accepts(alloc, &self.limits, edit, &self.rows)
+    }
+
+    /// Whether a file stands above the key, or a folder at it.
+    pub fn is_barred(&self, key: &ItemKey, folders: &[ItemKey]) -> bool
+        requires { folders.now ≡ folders_above key.now }
+        ensures { result ≡ (is_some (file_above (items_of self.now.rows) key.now) || has_folder (items_of self.now.rows) key.now) }
+    {
+        is_barred(&self.rows, key, folders)
+    }
+
+    /// Whether the limit of items would be passed with one at the key and the folders above it.
+    pub fn passes_limit(&self, key: &ItemKey, folders: &[ItemKey]) -> bool
+        requires { folders.now ≡ folders_above key.now }
+        ensures { result ≡ passes_limit self.now.limits (items_of self.now.rows) (added_with (items_of self.now.rows) key.now) }
+    {
+        passes_limit(&self.limits, &self.rows, key, folders)
     }
 
     /// The limits that it was opened with.

@@ -38,10 +38,10 @@ returns-in-Some-clause-complete g c = λ start stock requests ending is gt st ha
     let same = starts_same c.start_of_replay-start.result start (ap (λ (x : Command). Some x) (sym c.start_of_replay-start.ensures) ∙ sym c.in-Some.is ∙ c.command_of.ensures ∙ is) in
     subst (λ (n : ℕ). (c.replay.result ≡ status.Memory) ⊎ ((c.replay.result ≡ status_of ending) × ToldFor c.args.limits.now n stock requests ending told (new.told 0) new.files)) same
     (completes c.bytes_are_read_in_one_way.ensures c.args.limits.now c.start_of_replay-start.result stock input told (new.told 0) new.files requests ending reads c.replay.result c.replay.ensures.command
-    (λ none. c.replay.ensures.not_a_store gt none stock has) (λ fault. no_disk (c.replay.ensures.disk_fault fault)) (λ fault. no_tell (c.replay.ensures.tell_fault fault))
-    (λ fault. no_source (c.replay.ensures.source_fault fault)) (c.replay.ensures.replies gt st stock has))
+    (λ none. c.replay.ensures.not_a_store gt none stock has) (λ fault. no_disk (c.replay.ensures.disk.rose fault)) (λ fault. no_tell (c.replay.ensures.tell.rose fault))
+    (λ fault. no_source (c.replay.ensures.source.rose fault)) (c.replay.ensures.replies gt st stock has))
 
 pub returns-in-Some-clause-refused : goal.returns-in-Some-clause-refused
 returns-in-Some-clause-refused g c = λ start is gt none no_disk.
     refuses c.replay.result ((s : Stock) × HasStock c.args.limits.now (g.G.Ground.state c.args.ground.now).files s) (λ has. none has.0 has.1) c.replay.ensures.command
-    (λ fault. no_disk (c.replay.ensures.disk_fault fault)) (λ store disk memory. c.replay.ensures.a_store gt store disk memory)
+    (λ fault. no_disk (c.replay.ensures.disk.rose fault)) (λ store disk memory. c.replay.ensures.a_store gt store disk memory)

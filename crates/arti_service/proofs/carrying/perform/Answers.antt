@@ -1,9 +1,9 @@
 use Rattle.std.proofs.Common.{subst}
+use Rattle.arti_store.specs.Store.{shows}
 use Rattle.arti_model.specs.Stock.{Answer}
-use Rattle.arti_store.specs.ImageLaws.{contents_whole}
 use Rattle.arti_service.specs.Acts.{ActsFor}
-use Rattle.arti_service.specs.Stocks.{stock_of}
 use Rattle.arti_service.proofs.Doing.{has_status, whole_in}
+use Rattle.arti_service.proofs.Wholes.{kept_whole}
 use Rattle.arti_service.proofs.carrying.perform.Goals as goal
 
 pub prepare-requires : goal.prepare-requires
@@ -16,5 +16,5 @@ pub returns-clause-acts : goal.returns-clause-acts
 returns-clause-acts g c = λ gt.
     let x = g.G.Ground.state c.args.ground.now in
     let v = c.args.store.now in
-    let whole = whole_in (x.files 3) v (contents_whole x v (c.requires.holds gt c.requires.ready.still_open)) c.args.staged c.args.decision c.requires.may in
-    subst (λ (a : Answer). ActsFor v.limits c.args.line a c.carry_out.result x (g.G.Ground.state c.carry_out.new.ground) v c.carry_out.new.store) (c.in_ok-act.ensures.done (x.files 3) v.limits (stock_of x v) whole) (c.carry_out.ensures.acts gt)
+    let whole = whole_in (x.files 3) v (kept_whole x v (c.requires.holds gt c.requires.ready.still_open)) c.args.staged c.args.decision c.requires.may in
+    subst (λ (a : Answer). ActsFor v.limits c.args.line a c.carry_out.result x (g.G.Ground.state c.carry_out.new.ground) v c.carry_out.new.store) (c.in_ok-act.ensures.done (x.files 3) v.limits (shows x v) whole) (c.carry_out.ensures.acts gt)

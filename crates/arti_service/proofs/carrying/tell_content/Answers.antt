@@ -39,12 +39,12 @@ blocks-2-preserved g c =
       room = search rules;
       within = search rules;
       store = c.content.ensures.unchanged ∙ inv.store;
-      holds = λ gt. stays _ _ _ (c.tell.ensures.disk gt) (c.content.ensures.holds gt);
+      holds = λ gt. stays _ _ _ (c.tell.ensures.leaves gt) (c.content.ensures.holds gt);
       told = λ gt.
           let other : content ((g.G.Ground.state c.blocks-2.ground).files 3) c.args.file.now ≡ content ((g.G.Ground.state c.args.ground.now).files 3) c.args.file.now = ap (λ (f : Bytes). content (f 3) c.args.file.now) (inv.disk gt).files in
           block_told _ _ _ (g.G.Ground.state c.tell.new.ground) c.args.line _ c.blocks-2.at c.in-Ok.n _ (inv.told gt) (inv.disk gt) (c.content.ensures.reads gt)
           (piece_is _ _ c.blocks-2.at c.in-Ok.n c.min-room.result _ c.content.new.buf c.blocks-2.buf other (c.in-Ok.ensures.bytes gt) (search rules)) (c.in-Ok-tell.ensures.told gt);
-      disk = λ gt. leaves_three _ _ _ _ (inv.disk gt) (c.content.ensures.reads gt) (c.tell.ensures.disk gt);
+      disk = λ gt. leaves_three _ _ _ _ (inv.disk gt) (c.content.ensures.reads gt) (c.tell.ensures.leaves gt);
       time = λ gt.
           let other : content ((g.G.Ground.state c.blocks-2.ground).files 3) c.args.file.now ≡ content ((g.G.Ground.state c.args.ground.now).files 3) c.args.file.now = ap (λ (f : Bytes). content (f 3) c.args.file.now) (inv.disk gt).files in
           block_time _ _ _ _ c.args.line _ c.blocks-2.at c.in-Ok.n _ (inv.told gt) (inv.disk gt) (c.content.ensures.reads gt)

@@ -1,11 +1,11 @@
 use Rattle.std.proofs.Common.{◌≡◌, true, false, ap, rules}
+use Rattle.arti_store.specs.Store.{shows}
 use Rattle.std.specs.Prelude.{Err}
 use Rattle.arti_wire.specs.Framing.{body_left}
 use Rattle.std.proofs.Common.{List, ℕ, ◌++◌}
 use Rattle.arti_service.specs.Talk.{Answers}
 use Rattle.arti_service.specs.declared.conversation.Ending.{Ending}
 use Rattle.arti_service.proofs.Talks.{ends_in_body, ends_at_last, turns, cut_end}
-use Rattle.arti_service.specs.Stocks.{stock_of}
 use Rattle.arti_service.proofs.Stops.{in_one}
 use Rattle.arti_service.proofs.Acting.{moments_map}
 use Rattle.arti_service.proofs.Crashes.{during_one}
@@ -16,13 +16,13 @@ returns-in-Err-clause-ends g c = λ gt st ct input begins.
     let limits = c.args.limits.now in
     let most = c.args.most in
     let moments = g.C.Clock.moments c.args.clock.now in
-    let r = stock_of (g.G.Ground.state c.args.ground.now) c.args.store.now in
+    let r = shows (g.G.Ground.state c.args.ground.now) c.args.store.now in
     let told = (g.G.Ground.state c.args.ground.now).told c.args.line in
     let told' = (g.G.Ground.state c.answer_next.new.ground).told c.args.line in
     let n = body_left c.args.wire.now.phase in
     let rest : List ℕ = c.args.wire.now.ahead ++ g.S.Source.left c.args.source.now in
-    cut_end c.in-Err.ending (Answers limits most moments r input told told' (stock_of (g.G.Ground.state c.answer_next.new.ground) c.answer_next.new.store)) c.in-Err.ensures.ends
-    (λ cut. ends_in_body limits most moments r input c.args.request.now n rest c.requires.some begins told told' (stock_of (g.G.Ground.state c.answer_next.new.ground) c.answer_next.new.store) (c.in-Err.ensures.cut gt st (ap (λ (e : Ending). Err e) cut)))
+    cut_end c.in-Err.ending (Answers limits most moments r input told told' (shows (g.G.Ground.state c.answer_next.new.ground) c.answer_next.new.store)) c.in-Err.ensures.ends
+    (λ cut. ends_in_body limits most moments r input c.args.request.now n rest c.requires.some begins told told' (shows (g.G.Ground.state c.answer_next.new.ground) c.answer_next.new.store) (c.in-Err.ensures.cut gt st (ap (λ (e : Ending). Err e) cut)))
 
 pub returns-then-last-clause-ends : goal.returns-then-last-clause-ends
 returns-then-last-clause-ends g c = λ gt st ct input begins.
@@ -30,14 +30,14 @@ returns-then-last-clause-ends g c = λ gt st ct input begins.
     let most = c.args.most in
     let moments = g.C.Clock.moments c.args.clock.now in
     let moments' = g.C.Clock.moments c.answer_next.new.clock in
-    let r = stock_of (g.G.Ground.state c.args.ground.now) c.args.store.now in
+    let r = shows (g.G.Ground.state c.args.ground.now) c.args.store.now in
     let told = (g.G.Ground.state c.args.ground.now).told c.args.line in
     let told' = (g.G.Ground.state c.answer_next.new.ground).told c.args.line in
     let n = body_left c.args.wire.now.phase in
     let rest : List ℕ = c.args.wire.now.ahead ++ g.S.Source.left c.args.source.now in
     let input' : List ℕ = c.answer_next.new.wire.ahead ++ g.S.Source.left c.answer_next.new.source in
     let last : c.args.request.now.last ≡ true = search rules in
-    ends_at_last limits most moments r input c.args.request.now n rest c.requires.some begins moments' (stock_of (g.G.Ground.state c.answer_next.new.ground) c.answer_next.new.store) input' told told' (c.in-Ok.ensures.one gt st ct) last
+    ends_at_last limits most moments r input c.args.request.now n rest c.requires.some begins moments' (shows (g.G.Ground.state c.answer_next.new.ground) c.answer_next.new.store) input' told told' (c.in-Ok.ensures.one gt st ct) last
 
 pub returns-else-last-clause-turns : goal.returns-else-last-clause-turns
 returns-else-last-clause-turns g c = λ gt st ct input begins.
@@ -45,25 +45,25 @@ returns-else-last-clause-turns g c = λ gt st ct input begins.
     let most = c.args.most in
     let moments = g.C.Clock.moments c.args.clock.now in
     let moments' = g.C.Clock.moments c.answer_next.new.clock in
-    let r = stock_of (g.G.Ground.state c.args.ground.now) c.args.store.now in
+    let r = shows (g.G.Ground.state c.args.ground.now) c.args.store.now in
     let told = (g.G.Ground.state c.args.ground.now).told c.args.line in
     let told' = (g.G.Ground.state c.answer_next.new.ground).told c.args.line in
     let n = body_left c.args.wire.now.phase in
     let rest : List ℕ = c.args.wire.now.ahead ++ g.S.Source.left c.args.source.now in
     let input' : List ℕ = c.answer_next.new.wire.ahead ++ g.S.Source.left c.answer_next.new.source in
     let last : c.args.request.now.last ≡ false = search rules in
-    turns limits most moments r input c.args.request.now n rest c.requires.some begins moments' (stock_of (g.G.Ground.state c.answer_next.new.ground) c.answer_next.new.store) input' told told' (c.in-Ok.ensures.one gt st ct) last
+    turns limits most moments r input c.args.request.now n rest c.requires.some begins moments' (shows (g.G.Ground.state c.answer_next.new.ground) c.answer_next.new.store) input' told told' (c.in-Ok.ensures.one gt st ct) last
 
 pub returns-in-Err-clause-stops : goal.returns-in-Err-clause-stops
 returns-in-Err-clause-stops g c = λ gt st ct input begins.
-    in_one c.args.limits.now c.args.most (g.C.Clock.moments c.args.clock.now) (stock_of (g.G.Ground.state c.args.ground.now) c.args.store.now) input c.args.request.now (body_left c.args.wire.now.phase)
+    in_one c.args.limits.now c.args.most (g.C.Clock.moments c.args.clock.now) (shows (g.G.Ground.state c.args.ground.now) c.args.store.now) input c.args.request.now (body_left c.args.wire.now.phase)
     (c.args.wire.now.ahead ++ g.S.Source.left c.args.source.now) _ _ c.in-Err.ending c.requires.some begins (c.in-Err.ensures.stops gt st ct)
 
 pub returns-in-Err-clause-moments : goal.returns-in-Err-clause-moments
 returns-in-Err-clause-moments g c = λ gt st ct input begins.
     let limits = c.args.limits.now in
     let moments = g.C.Clock.moments c.args.clock.now in
-    let s = stock_of (g.G.Ground.state c.args.ground.now) c.args.store.now in
+    let s = shows (g.G.Ground.state c.args.ground.now) c.args.store.now in
     let n = body_left c.args.wire.now.phase in
     let rest : List ℕ = c.args.wire.now.ahead ++ g.S.Source.left c.args.source.now in
     moments_map limits c.args.line _ _ _ _ _ (during_one limits c.args.most moments s input c.args.request.now n rest c.requires.some begins) (c.answer_next.ensures.moments gt st ct)
@@ -72,7 +72,7 @@ pub returns-then-last-clause-moments : goal.returns-then-last-clause-moments
 returns-then-last-clause-moments g c = λ gt st ct input begins.
     let limits = c.args.limits.now in
     let moments = g.C.Clock.moments c.args.clock.now in
-    let s = stock_of (g.G.Ground.state c.args.ground.now) c.args.store.now in
+    let s = shows (g.G.Ground.state c.args.ground.now) c.args.store.now in
     let n = body_left c.args.wire.now.phase in
     let rest : List ℕ = c.args.wire.now.ahead ++ g.S.Source.left c.args.source.now in
     moments_map limits c.args.line _ _ _ _ _ (during_one limits c.args.most moments s input c.args.request.now n rest c.requires.some begins) (c.answer_next.ensures.moments gt st ct)
@@ -81,7 +81,7 @@ pub returns-else-last-clause-moments : goal.returns-else-last-clause-moments
 returns-else-last-clause-moments g c = λ gt st ct input begins.
     let limits = c.args.limits.now in
     let moments = g.C.Clock.moments c.args.clock.now in
-    let s = stock_of (g.G.Ground.state c.args.ground.now) c.args.store.now in
+    let s = shows (g.G.Ground.state c.args.ground.now) c.args.store.now in
     let n = body_left c.args.wire.now.phase in
     let rest : List ℕ = c.args.wire.now.ahead ++ g.S.Source.left c.args.source.now in
     moments_map limits c.args.line _ _ _ _ _ (during_one limits c.args.most moments s input c.args.request.now n rest c.requires.some begins) (c.answer_next.ensures.moments gt st ct)

@@ -1,15 +1,17 @@
-use Rattle.std.proofs.Common.{◌≡◌, refl, sym, ap, ◌∙◌, subst}
-use Rattle.std.specs.Prelude.{All, Contains, None, option_map}
+use Rattle.std.proofs.Common.{◌≡◌, [], refl, sym, ap, ◌∙◌, subst}
+use Rattle.std.specs.Prelude.{All, None, option_map}
+use Rattle.std.proofs.lemmas.List.Elements.{All-nil}
 use Rattle.arti_rows.specs.declared.edits.Change.{Change}
 use Rattle.arti_rows.specs.declared.refusal.Refusal.TheVariants as refusals
-use Rattle.arti_model.specs.Apply.{refusal}
 use Rattle.arti_model.specs.Decide.{anonymous, file_at}
 use Rattle.arti_model.specs.Decide as model
 use Rattle.arti_store.specs.Items.{file_in, items_in}
 use Rattle.arti_store.specs.Changes.{references_of}
-use Rattle.arti_store.specs.Store.{holding_of, kept_and}
+use Rattle.arti_store.specs.Replays.{itself}
+use Rattle.arti_store.specs.Store.{judged}
+use Rattle.arti_store.specs.Commit.{MayName}
 use Rattle.arti_service.specs.Decisions.{SameDone, decided_in}
-use Rattle.arti_service.proofs.Changes.{fetch_accepted, no_references}
+use Rattle.arti_service.proofs.Changes.{fetch_accepted}
 use Rattle.arti_service.proofs.Deploying.{fetches, same_as}
 use Rattle.arti_service.proofs.fetch.decide_fetch.Goals as goal
 
@@ -25,11 +27,9 @@ returns c = λ body sent.
           (fetches bytes c.args.moment key file (file_at (items_in bytes v.rows) key) (c.in-Some.ensures.file bytes));
       may = (
         record {
-          accepted = λ bytes.
-              ap (λ (change : Change). refusal v.limits (file_in bytes) change (holding_of bytes v)) is
-              ∙ fetch_accepted v.limits (file_in bytes) c.args.moment anonymous key (holding_of bytes v) (file_in bytes file) c.requires (sym (c.in-Some.ensures.file bytes));
+          accepted = ap (judged v) is ∙ fetch_accepted v.limits itself c.args.moment anonymous key v.rows (file_in [] file) c.requires (sym (c.in-Some.ensures.file []));
           has_bytes = c.in_ok-change.ensures.bytes;
-          references = subst (λ (change : Change). All (Contains (kept_and v.contents.kept None)) (references_of change.edits)) (sym is) (no_references (kept_and v.contents.kept None));
+          references = subst (λ (change : Change). All (MayName v.contents.kept None) (references_of change.edits)) (sym is) (All-nil (MayName v.contents.kept None));
         },
         record { status = refl; kept = c.in-Some.ensures.kept },
       );

@@ -18,7 +18,7 @@ pub returns-in-Ok-clause-stops : goal.returns-in-Ok-clause-stops
 returns-in-Ok-clause-stops g c = λ gt. second_stops c.tell-in-Ok.result _ _ _ _ _ c.tell-in-Ok.ensures.no_memory (c.in-Ok.ensures.told gt) (c.tell-in-Ok.ensures.stops gt)
 
 pub returns-in-Ok-clause-time : goal.returns-in-Ok-clause-time
-returns-in-Ok-clause-time g c = λ gt. time_both _ _ _ _ _ _ (c.tell-2.ensures.disk gt) (c.in-Ok.ensures.told gt) (c.tell-2.ensures.time gt) (c.tell-in-Ok.ensures.time gt)
+returns-in-Ok-clause-time g c = λ gt. time_both _ _ _ _ _ _ (c.tell-2.ensures.leaves gt) (c.in-Ok.ensures.told gt) (c.tell-2.ensures.time gt) (c.tell-in-Ok.ensures.time gt)
 
 zero_of : (n : ℕ) → (n == 0) ≡ true → n ≡ 0
 zero_of n e = grind (arith, nat_tests, e)

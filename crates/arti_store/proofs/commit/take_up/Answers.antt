@@ -4,7 +4,7 @@ use Rattle.arti_rows.specs.declared.rows.FileRef.{FileRef}
 use Rattle.arti_blobs.specs.Contents.{Contents}
 use Rattle.arti_store.specs.Items.{HasFileIn}
 use Rattle.arti_store.specs.Changes.{references_of}
-use Rattle.arti_store.specs.Store.{kept_and}
+use Rattle.arti_store.specs.Commit.{kept_and}
 use Rattle.arti_store.proofs.Holdings.{has_more}
 use Rattle.arti_store.proofs.Commits.{and_contains}
 use Rattle.arti_store.proofs.commit.take_up.Goals as goal

@@ -18,24 +18,24 @@ returns-in-Err-NotAJournal-clause-none g c = λ tells is h used stands.
     c.open.ensures.none tells (c.in-Err-NotAJournal.is ∙ ap Err c.in-Err-NotAJournal.field-0-is) stands.bodies stands.journal
 
 pub returns-in-Err-NotAJournal-clause-moments : goal.returns-in-Err-NotAJournal-clause-moments
-returns-in-Err-NotAJournal-clause-moments g c = λ tells. journal_opened (g.G.Ground.state c.args.outside.now) (g.G.Ground.state c.open.new.outside) c.args.limits.now (c.open.ensures.moments tells)
+returns-in-Err-NotAJournal-clause-moments g c = λ tells. journal_opened (g.G.Ground.state c.args.ground.now) (g.G.Ground.state c.open.new.outside) c.args.limits.now (c.open.ensures.moments tells)
 
 pub returns-in-Err-Device-clause-moments : goal.returns-in-Err-Device-clause-moments
-returns-in-Err-Device-clause-moments g c = λ tells. journal_opened (g.G.Ground.state c.args.outside.now) (g.G.Ground.state c.open.new.outside) c.args.limits.now (c.open.ensures.moments tells)
+returns-in-Err-Device-clause-moments g c = λ tells. journal_opened (g.G.Ground.state c.args.ground.now) (g.G.Ground.state c.open.new.outside) c.args.limits.now (c.open.ensures.moments tells)
 
 pub returns-in-Err-Memory-clause-moments : goal.returns-in-Err-Memory-clause-moments
-returns-in-Err-Memory-clause-moments g c = λ tells. journal_opened (g.G.Ground.state c.args.outside.now) (g.G.Ground.state c.open.new.outside) c.args.limits.now (c.open.ensures.moments tells)
+returns-in-Err-Memory-clause-moments g c = λ tells. journal_opened (g.G.Ground.state c.args.ground.now) (g.G.Ground.state c.open.new.outside) c.args.limits.now (c.open.ensures.moments tells)
 
 pub returns-in-Err-clause-moments : goal.returns-in-Err-clause-moments
-returns-in-Err-clause-moments g c = λ tells. journal_opened (g.G.Ground.state c.args.outside.now) (g.G.Ground.state c.open.new.outside) c.args.limits.now (c.open.ensures.moments tells)
+returns-in-Err-clause-moments g c = λ tells. journal_opened (g.G.Ground.state c.args.ground.now) (g.G.Ground.state c.open.new.outside) c.args.limits.now (c.open.ensures.moments tells)
 
 pub returns-in-Ok-None-clause-moments : goal.returns-in-Ok-None-clause-moments
-returns-in-Ok-None-clause-moments g c = λ tells. journal_opened (g.G.Ground.state c.args.outside.now) (g.G.Ground.state c.open.new.outside) c.args.limits.now (c.open.ensures.moments tells)
+returns-in-Ok-None-clause-moments g c = λ tells. journal_opened (g.G.Ground.state c.args.ground.now) (g.G.Ground.state c.open.new.outside) c.args.limits.now (c.open.ensures.moments tells)
 
 pub returns-in-Ok-None-clause-none : goal.returns-in-Ok-None-clause-none
 returns-in-Ok-None-clause-none g c = λ tells is h used stands.
     let limits : Limits = c.args.limits.now in
-    let old : State = g.G.Ground.state c.args.outside.now in
+    let old : State = g.G.Ground.state c.args.ground.now in
     let bodies : List (List ℕ) = bodies_of c.in-Ok.opened.1.items in
     let journal : IsJournal bodies (old.files 1) = search rules in
     let not : ReplaysNot limits bodies = search rules in
@@ -44,7 +44,7 @@ returns-in-Ok-None-clause-none g c = λ tells is h used stands.
 pub returns-in-Err-open_contents-clause-none : goal.returns-in-Err-open_contents-clause-none
 returns-in-Err-open_contents-clause-none g c = λ tells is h used stands.
     let limits : Limits = c.args.limits.now in
-    let old : State = g.G.Ground.state c.args.outside.now in
+    let old : State = g.G.Ground.state c.args.ground.now in
     let bodies : List (List ℕ) = bodies_of c.in-Ok.opened.1.items in
     let journal : IsJournal bodies (old.files 1) = search rules in
     let rows : List ItemRow = c.in-Ok-Some.done.0 in
@@ -61,13 +61,13 @@ pub returns-in-Err-open_contents-clause-moments : goal.returns-in-Err-open_conte
 returns-in-Err-open_contents-clause-moments g c = λ tells.
     let mid : State = g.G.Ground.state c.open.new.outside in
     let durable : IsDurable mid = search rules in
-    then_read (g.G.Ground.state c.args.outside.now) mid (g.G.Ground.state c.open_contents.new.outside) c.args.limits.now (c.open.ensures.moments tells) durable (c.open.ensures.now tells) (c.open_contents.ensures.reads tells)
+    then_read (g.G.Ground.state c.args.ground.now) mid (g.G.Ground.state c.open_contents.new.ground) c.args.limits.now (c.open.ensures.moments tells) durable (c.open.ensures.now tells) (c.open_contents.ensures.reads tells)
 
 pub returns-clause-moments : goal.returns-clause-moments
 returns-clause-moments g c = λ tells.
     let mid : State = g.G.Ground.state c.open.new.outside in
     let durable : IsDurable mid = search rules in
-    then_read (g.G.Ground.state c.args.outside.now) mid (g.G.Ground.state c.open_contents.new.outside) c.args.limits.now (c.open.ensures.moments tells) durable (c.open.ensures.now tells) (c.open_contents.ensures.reads tells)
+    then_read (g.G.Ground.state c.args.ground.now) mid (g.G.Ground.state c.open_contents.new.ground) c.args.limits.now (c.open.ensures.moments tells) durable (c.open.ensures.now tells) (c.open_contents.ensures.reads tells)
 
 pub invariant_of-result : goal.invariant_of-result
 invariant_of-result g c =
@@ -87,7 +87,7 @@ invariant_of-result g c =
 pub returns-clause-stands : goal.returns-clause-stands
 returns-clause-stands g c = λ tells.
     let limits : Limits = c.args.limits.now in
-    let old : State = g.G.Ground.state c.args.outside.now in
+    let old : State = g.G.Ground.state c.args.ground.now in
     let bodies : List (List ℕ) = bodies_of c.in-Ok.opened.1.items in
     let journal : IsJournal bodies (old.files 1) = search rules in
     let rows : List ItemRow = c.in-Ok-Some.done.0 in
@@ -109,7 +109,7 @@ returns-clause-stands g c = λ tells.
 pub returns-clause-holds : goal.returns-clause-holds
 returns-clause-holds g c = λ tells is.
     let limits : Limits = c.args.limits.now in
-    let old : State = g.G.Ground.state c.args.outside.now in
+    let old : State = g.G.Ground.state c.args.ground.now in
     let bodies : List (List ℕ) = bodies_of c.in-Ok.opened.1.items in
     let journal : IsJournal bodies (old.files 1) = search rules in
     let rows : List ItemRow = c.in-Ok-Some.done.0 in
@@ -128,4 +128,4 @@ returns-clause-holds g c = λ tells is.
     let v : View = record { rows = rows; contents = blobs; used = c.in-Ok.opened.0.used; limits = limits; commits = 0; closed = None } in
     let durable : IsDurable mid = search rules in
     let staging : blobs.staging ≡ None = search rules in
-    opened_holds limits bodies (items_of rows) names blobs.kept (old.files 3) replays keeps distinct within short v refl refl refl mid (g.G.Ground.state c.open_contents.new.outside) c.in-Ok.opened.0.used third held refl durable (c.open_contents.ensures.reads tells) staging
+    opened_holds limits bodies (items_of rows) names blobs.kept (old.files 3) replays keeps distinct within short v refl refl refl mid (g.G.Ground.state c.open_contents.new.ground) c.in-Ok.opened.0.used third held refl durable (c.open_contents.ensures.reads tells) staging

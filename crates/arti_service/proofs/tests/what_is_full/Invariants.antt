@@ -1,4 +1,0 @@
-use Rattle.arti_service.proofs.tests.what_is_full.Given as goal
-
-abbrev pub ghosts-talk : goal.ghosts-talk
-ghosts-talk g a = record { name = a.blank.name; parts = a.blank.parts }

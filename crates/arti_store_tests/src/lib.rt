@@ -1,0 +1,7 @@
+//! Tests of stores, by public calls alone.
+#![tactic(auto)]
+
+#[cfg(test)]
+mod quiet;
+#[cfg(test)]
+mod store;
