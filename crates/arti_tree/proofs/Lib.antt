@@ -29,4 +29,6 @@ mod Ordering
 mod Felling
 mod Sorting
 mod Copied
+mod Merging
+mod Leaving
 mod Piecing

@@ -59,6 +59,11 @@ with_row r (x ∷ rows) = if nat_lt r.id x.id then r ∷ x ∷ rows else x ∷ w
 abbrev pub without_row : ℕ → List Row → List Row
 without_row id rows = filter (λ r. not (r.id == id)) rows
 
+-- without the rows of ids, one after the other
+abbrev pub without_rows : List ℕ → List Row → List Row
+without_rows [] rows = rows
+without_rows (id ∷ gone) rows = without_rows gone (without_row id rows)
+
 -- the rows ascend by id, from n on
 abbrev pub RowsFrom : ℕ → List Row → Type 0
 RowsFrom n [] = Unit {0}

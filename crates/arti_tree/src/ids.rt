@@ -1,7 +1,7 @@
 // Lists of ids that ascend, each id once.
-ghost use Rattle.std.specs.Prelude.{[], ◌∷◌, ◌++◌, ◌≡◌, ◌≢◌, ℕ, ◌+◌, ◌-◌, ◌<◌, ◌≤◌, ◌^◌, ◌⊎◌, length, slice_index, vec_len, vec_capacity, IfOk, IfErr, OnOk, OnErr};
+ghost use Rattle.std.specs.Prelude.{[], ◌∷◌, ◌++◌, ◌≡◌, ◌≢◌, ℕ, ◌+◌, ◌-◌, ◌<◌, ◌≤◌, ◌^◌, ◌⊎◌, take, drop, length, slice_index, vec_len, vec_capacity, IfOk, IfErr, OnOk, OnErr};
 ghost use Rattle.arti_tree.specs.Ids.{AscendFrom, IsGap, Lacks, with_id, without_id};
-ghost use Rattle.arti_tree.specs.Shifts.{AreNew, with_ids, without_ids};
+ghost use Rattle.arti_tree.specs.Shifts.{lead, left_by, AreNew, with_ids, without_ids};
 
 use std::alloc::AllocError;
 
@@ -67,6 +67,49 @@ pub(crate) fn drop_ids(ids: &mut Vec<u32>, fewer: &[u32])
     for id in fewer {
         drop_id(ids, *id);
     }
+}
+
+/// Ids less that ascend, in one pass.
+pub(crate) fn drop_ascending(ids: &mut Vec<u32>, fewer: &[u32])
+    requires ascend { AscendFrom 0 ids.old.items }
+    requires fewer_ascend { AscendFrom 0 fewer.now }
+    ensures { ids.new.items ≡ without_ids fewer.now ids.old.items }
+{
+    let kept = close_up(ids, fewer);
+    ids.truncate(kept);
+}
+
+// The ids that others leave come to the front. How many they are.
+fn close_up(ids: &mut [u32], others: &[u32]) -> usize
+    ensures left { take result ids.new ≡ left_by others.now ids.old }
+    ensures within { result ≤ length ids.new }
+    ensures long { length ids.new ≡ length ids.old }
+{
+    let mut next = 0usize;
+    let mut kept = 0usize;
+    for i in 0..ids.len() {
+        let id = ids[i];
+        next = past(others, next, id);
+        if next == others.len() || others[next] != id {
+            ids[kept] = id;
+            kept += 1;
+        }
+    }
+    kept
+}
+
+// The first place from this one on at which an id is not less.
+fn past(ids: &[u32], from: usize, id: u32) -> usize
+    requires { from ≤ length ids.now }
+    ensures within { result ≤ length ids.now }
+    ensures from { from ≤ result }
+    ensures past { result ≡ from + lead id (drop from ids.now) }
+{
+    let mut place = from;
+    'ids: while place < ids.len() && ids[place] < id {
+        place += 1;
+    }
+    place
 }
 
 /// An id less.

@@ -9,6 +9,7 @@ mod keys;
 mod lists;
 mod pieces;
 mod rekeying;
+mod removing;
 mod repos;
 mod searching;
 mod slot;

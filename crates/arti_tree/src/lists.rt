@@ -6,6 +6,7 @@ ghost use Rattle.arti_tree.specs.Ids.{AscendFrom, Lacks, with_id, without_id};
 ghost use Rattle.arti_tree.specs.Slots.{is_it};
 ghost use Rattle.arti_tree.specs.Children.{list_at};
 ghost use Rattle.arti_tree.specs.Repos.{list_of};
+ghost use Rattle.arti_tree.specs.Renames.{has};
 ghost use Rattle.arti_tree.specs.Shifts.{AreNew, shifted};
 
 use crate::ids::{add_id, drop_id};
@@ -85,6 +86,15 @@ pub(crate) fn leave_folder(children: &mut Children, folder: Option<u32>, id: u32
 {
     if let Some(folder) = folder {
         leave_list(children, folder, id);
+    }
+}
+
+/// These have no rows left.
+pub(crate) fn drop_lists(children: &mut Children, ids: &[u32])
+    ensures { (i : ℕ) → list_at children.new i ≡ (if has ids.now i then [] else list_at children.old i) }
+{
+    for id in ids {
+        children.remove(id);
     }
 }
 

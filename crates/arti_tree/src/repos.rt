@@ -5,7 +5,7 @@ ghost use Rattle.arti_tree.specs.Ids.{AscendFrom, Lacks, with_id, without_id};
 ghost use Rattle.arti_tree.specs.Repos.{list_of};
 ghost use Rattle.arti_tree.specs.Shifts.{AreNew, shifted, with_ids, without_ids};
 
-use crate::ids::{add_id, add_ids, drop_id, drop_ids};
+use crate::ids::{add_id, add_ids, drop_ascending, drop_id, drop_ids};
 use std::alloc::{AllocError, Global};
 use std::collections::BTreeMap;
 
@@ -77,6 +77,17 @@ fn leave_all(repos: &mut Repos, repo: &str, ids: &[u32])
 {
     if let Some(list) = repos.get_mut(repo) {
         drop_ids(list, ids);
+    }
+}
+
+/// Rows less in a repository, whose ids ascend.
+pub(crate) fn leave_ascending(repos: &mut Repos, repo: &str, ids: &[u32])
+    requires ascend { AscendFrom 0 (list_of repos.old repo.now) }
+    requires ids_ascend { AscendFrom 0 ids.now }
+    ensures { (q : List ℕ) → list_of repos.new q ≡ (if bytes_eq q repo.now then without_ids ids.now (list_of repos.old q) else list_of repos.old q) }
+{
+    if let Some(list) = repos.get_mut(repo) {
+        drop_ascending(list, ids);
     }
 }
 

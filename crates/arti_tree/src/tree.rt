@@ -17,11 +17,12 @@ ghost use Rattle.arti_tree.specs.Renames.{AreWithin, is_within, key_for, moved_r
 use crate::TreeFault;
 use crate::blocks::Blocks;
 use crate::copying::{copy_children, copy_ids, copy_repos, copy_slots};
-use crate::ids::{add_ready, drop_id, free_id, push_ready};
+use crate::ids::{add_ready, drop_ascending, drop_id, free_id, push_ready};
 use crate::keys::{is_within, moved_key, stays};
-use crate::lists::{Children, enter_both, leave_folder, listed, shift_both};
+use crate::lists::{Children, drop_lists, enter_both, leave_folder, listed, shift_both};
 use crate::rekeying::rekey_all;
-use crate::repos::{Repos, ids_of, leave};
+use crate::removing::fell_all;
+use crate::repos::{Repos, ids_of, leave, leave_ascending};
 use crate::searching::{cut, place_of};
 use crate::slot::{Slot, empty, fill, make_room, slot_of};
 use arti_rows::ItemKey;
@@ -319,11 +320,33 @@ impl Tree {
         ensures value { result ≡ is_some (row_of self.old id) }
         ensures rows { self.new ≡ without_within self.old id }
     {
-        if self.key(id).is_none() {
+        self.rules();
+        let Some(key) = self.key(id) else {
             return false;
+        };
+        match self.ids_within(*self.all.allocator(), id, key) {
+            Ok(ids) => self.drop_all(id, &ids),
+            Err(_) => self.drop_within(id),
         }
-        self.drop_within(id);
         true
+    }
+
+    // A live row goes, and all rows beneath it, whose ids these are.
+    fn drop_all(&mut self, id: u32, ids: &[u32])
+        requires live { IsSome (row_of self.old id) }
+        requires within { IfSome (row_of self.old id) (λ r. AreWithin self.old r.key ids.now) }
+        requires ascend { AscendFrom 0 ids.now }
+        ensures { self.new ≡ without_within self.old id }
+    {
+        let folder = self.folder_under(id);
+        let Some(slot) = slot_of(&self.slots, id) else {
+            unreachable!();
+        };
+        leave_ascending(&mut self.repos, slot.key.repo.as_str(), ids);
+        leave_folder(&mut self.children, folder, id);
+        drop_lists(&mut self.children, ids);
+        drop_ascending(&mut self.all, ids);
+        fell_all(&mut self.slots, &mut self.order, ids);
     }
 
     // A live row goes, and all rows beneath it, those beneath it first.
