@@ -1,7 +1,7 @@
 // Items that go.
 ghost use Rattle.std.specs.Prelude.{◌≡◌, ℕ, true, false, not, filter, OnOk};
 ghost use Rattle.arti_rows.specs.declared.limits.Limits.{Limits};
-ghost use Rattle.arti_tree.specs.Renames.{has};
+ghost use Rattle.arti_tree.specs.Renames.{has, without_within};
 ghost use Rattle.arti_model.specs.Store.{has_item};
 ghost use Rattle.arti_model.specs.Edits.{is_within, items_without};
 ghost use Rattle.arti_catalog.specs.Held.{Fits, Keeps, at, items_of};
@@ -9,6 +9,7 @@ ghost use Rattle.arti_catalog.specs.Held.{Fits, Keeps, at, items_of};
 use crate::parts::Parts;
 use crate::rows::Rows;
 use arti_rows::ItemKey;
+use arti_tree::Tree;
 use std::alloc::{AllocError, Global};
 
 /// An item goes with all beneath it.
@@ -24,11 +25,18 @@ pub(crate) fn remove(alloc: Global, parts: &mut Parts, key: &ItemKey) -> Result<
     let Some(id) = parts.tree.get(key) else {
         return Ok(());
     };
-    parts.tree.remove_within(id);
+    drop_within(&mut parts.tree, id);
     parts.tree.rules();
     let _ = parts.tree.ordered();
     clear(&mut parts.rows, &ids);
     Ok(())
+}
+
+// The key of an id goes, and those beneath it.
+fn drop_within(tree: &mut Tree, id: u32)
+    ensures { tree.new ≡ without_within tree.old id }
+{
+    tree.remove_within(id);
 }
 
 // The rows of these ids go.
