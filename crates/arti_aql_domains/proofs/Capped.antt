@@ -5,7 +5,7 @@ use Rattle.std.proofs.lemmas.Bool.{cases_lt}
 use Rattle.arti_query_model.specs.Cases.{cases, product_of_cases}
 use Rattle.arti_aql_domains.specs.declared.cond.Cond.{Cond}
 use Rattle.arti_aql_domains.specs.Conditions.{cond_view, conds_view}
-use Rattle.arti_aql_domains.proofs.Each.{next}
+use Rattle.arti_aql_domains.proofs.Next.{next}
 
 times_more : (a k : ℕ) → a * 1 ≤ a * suc k
 times_more a k = mul-le-mul_left a (omega arith)

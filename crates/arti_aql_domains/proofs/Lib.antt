@@ -1,7 +1,7 @@
 pub mod Digits
 pub mod Cuts
 pub mod Walks
-pub mod Each
+pub mod Next
 pub mod Parts
 pub mod Fields
 pub mod Groups

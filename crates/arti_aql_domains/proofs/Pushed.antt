@@ -16,7 +16,7 @@ use Rattle.arti_query_model.specs.World.{same, Criterion}
 use Rattle.arti_query_model.specs.Typing.{Begin, SameTests, members_with, members_in, same_member, same_tests, same_of}
 use Rattle.arti_aql_domains.specs.declared.same.Found.{Found}
 use Rattle.arti_aql_domains.specs.Behind.{behind_tests, found_view, told}
-use Rattle.arti_aql_domains.proofs.Each.{next}
+use Rattle.arti_aql_domains.proofs.Next.{next}
 use Rattle.arti_aql_domains.proofs.Groups.{view-Object}
 
 -- the tests of a member, then those of the members behind it

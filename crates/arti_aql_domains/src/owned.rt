@@ -2,18 +2,12 @@
 ghost use Rattle.std.specs.Prelude.{◌≡◌, ◌&&◌, length, nat_lt};
 ghost use Rattle.std.specs.List.{list_all};
 ghost use Rattle.std.specs.List as list;
-ghost use Rattle.std.specs.Str.{bytes_eq};
 ghost use Rattle.arti_query_model.specs.World as model;
 
+use crate::table::same;
 use crate::tested::{is_denial, null_holds, words_meet};
 use arti_query_model::{PropKey, PropTest, TypedLit};
 use arti_rows::Property;
-
-fn same(a: &str, b: &str) -> bool
-    ensures { result ≡ bytes_eq a.now b.now }
-{
-    a == b
-}
 
 // Whether a test asks of a property at all.
 fn is_in_question(key: &PropKey, property: &Property) -> bool

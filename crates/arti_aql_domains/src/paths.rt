@@ -1,6 +1,5 @@
 //! Paths: the names of relations, then a field, or `@` and the key of a property, with dots between them.
 ghost use Rattle.std.specs.Prelude.{◌≡◌, ◌≢◌, ◌<◌, ◌∷◌, ◌++◌, [], length, nat_lt, Ok, Err, Some, None, IfOk, IfErr, IfSome, MatchOption, option_map, drop, true};
-ghost use Rattle.std.specs.Str.{bytes_eq};
 ghost use Rattle.arti_query_model.specs.declared.fault.TypeFault.TheVariants.{Memory};
 ghost use Rattle.arti_query_model.specs.declared.tests.ShownPart.TheVariants.{All};
 ghost use Rattle.arti_query_model.specs.Paths as model;
@@ -8,7 +7,7 @@ ghost use Rattle.arti_query_model.specs.Paths.{path_text, relations_named, end_o
 ghost use Rattle.arti_aql_domains.specs.Paths.{behind, target_view, Leads};
 
 use crate::faults::{no_field, path_too_long};
-use crate::table::{field_of, has_properties, relation_of};
+use crate::table::{field_of, has_properties, relation_of, same};
 use arti_query_model::{FieldId, FieldType, PropKey, Rel, Shown, ShownPart, TypeFault};
 use arti_rows::{Seq, Text, is_prop_key};
 use std::alloc::{AllocError, Global};
@@ -112,12 +111,6 @@ fn relations_of<'a>(alloc: Global, root: Rel, text: &'a str) -> Result<Walked<'a
         Some(walked) => Ok(walked),
         None => Err(no_field(alloc, text)),
     }
-}
-
-fn same(a: &str, b: &str) -> bool
-    ensures { result ≡ bytes_eq a.now b.now }
-{
-    a == b
 }
 
 // The key behind the `@` of a last part.

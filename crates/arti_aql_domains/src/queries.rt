@@ -1,6 +1,5 @@
 //! A whole query, typed.
 ghost use Rattle.std.specs.Prelude.{◌≡◌, ◌≢◌, [], Ok, Err, IfOk, IfErr};
-ghost use Rattle.std.specs.Str.{bytes_eq};
 ghost use Rattle.std.specs.Option.{unwrap_or};
 ghost use Rattle.arti_query_model.specs.declared.fault.TypeFault.TheVariants.{Memory};
 ghost use Rattle.arti_query_model.specs.Typed as typed;
@@ -12,16 +11,11 @@ use crate::cond::Typed;
 use crate::criteria::type_criteria;
 use crate::faults::no_domain;
 use crate::sorting::{type_shown, type_sort};
+use crate::table::same;
 use arti_aql_parse::Query;
 use arti_query_model::{Rel, TypeFault};
 use arti_rows::{Moment, Seq, Text};
 use std::alloc::Global;
-
-fn same(a: &str, b: &str) -> bool
-    ensures { result ≡ bytes_eq a.now b.now }
-{
-    a == b
-}
 
 // Whether builds are found, not items.
 #[tactic(auto, unfolding(arti_query_model::specs::Typed::root_of))]

@@ -178,7 +178,8 @@ pub fn takes(values: FieldType, op: Op) -> bool
     }
 }
 
-fn same(a: &str, b: &str) -> bool
+/// Whether two texts are one.
+pub fn same(a: &str, b: &str) -> bool
     ensures { result ≡ bytes_eq a.now b.now }
 {
     a == b

@@ -1,7 +1,6 @@
 //! What is written in a query, as the value of a field.
 ghost use Rattle.std.specs.Prelude.{◌≡◌, ◌≢◌, ◌≤◌, ◌<◌, ◌^◌, ℕ, length, slice_index, true, Ok, Err, IfOk, IfErr, option_map};
 ghost use Rattle.std.specs.Char.{is_ascii_digit};
-ghost use Rattle.std.specs.Str.{bytes_eq};
 ghost use Rattle.std.specs.List.{list_all};
 ghost use Rattle.arti_aql_parse.specs.Words.{digits_value};
 ghost use Rattle.arti_aql_parse.specs.declared.query.Lit.TheVariants as lit;
@@ -13,7 +12,7 @@ ghost use Rattle.arti_query_model.specs.Values as model;
 ghost use Rattle.arti_query_model.specs.Values.{test_of, moment_before};
 
 use crate::faults::{bad_value, wrong_operator};
-use crate::table::takes;
+use crate::table::{same, takes};
 use arti_aql_parse::{Lit, Op, Test};
 use arti_query_model::{FieldType, ItemKind, TypeFault, TypedLit, TypedTest};
 use arti_rows::{Moment, Text};
@@ -75,12 +74,6 @@ pub fn number_in(text: &str) -> Option<i64>
         return Some(digits_value(bytes) as i64);
     }
     None
-}
-
-fn same(a: &str, b: &str) -> bool
-    ensures { result ≡ bytes_eq a.now b.now }
-{
-    a == b
 }
 
 /// The kind of an item that has this name.
