@@ -1,13 +1,7 @@
-//! Tests of the rows, of the tree and the properties of items, and of the bytes of changes, by public calls alone.
+//! Tests of the texts of properties and of the bytes of changes, by public calls alone.
 #![tactic(auto)]
 
 #[cfg(test)]
 mod codec;
 #[cfg(test)]
-mod ids;
-#[cfg(test)]
 mod property_texts;
-#[cfg(test)]
-mod props;
-#[cfg(test)]
-mod tree;
