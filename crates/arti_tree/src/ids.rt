@@ -1,6 +1,6 @@
 // Lists of ids that ascend, each id once.
 ghost use Rattle.std.specs.Prelude.{[], ◌∷◌, ◌++◌, ◌≡◌, ◌≢◌, ℕ, ◌+◌, ◌-◌, ◌<◌, ◌≤◌, ◌^◌, ◌⊎◌, take, drop, length, slice_index, vec_len, vec_capacity, IfOk, IfErr, OnOk, OnErr};
-ghost use Rattle.arti_tree.specs.Ids.{AscendFrom, IsGap, Lacks, with_id, without_id};
+ghost use Rattle.arti_tree.specs.Ids.{AscendFrom, IsGap, IsNext, Lacks, with_id, without_id};
 ghost use Rattle.arti_tree.specs.Shifts.{lead, left_by, AreNew, with_ids, without_ids};
 
 use std::alloc::AllocError;
@@ -132,23 +132,42 @@ pub(crate) fn push_ready(ids: &mut Vec<u32>, id: u32)
     let _ = ids.push(id);
 }
 
-/// The least number that is no id of the list.
+/// The greatest number below the last of the ids that is none of them, or the next behind it where they leave none out.
 pub(crate) fn free_id(ids: &[u32]) -> u32
     requires ascend { AscendFrom 0 ids.now }
     requires few { length ids.now < 2 ^ 32 }
     ensures absent { Lacks ids.now result }
-    ensures within { result ≤ length ids.now }
-    ensures next { (result ≡ 0) ⊎ (slice_index ids.now (result - 1) ≡ result - 1) }
+    ensures within { (result ≡ 0) ⊎ ((0 < length ids.now) × (result ≤ slice_index ids.now (length ids.now - 1) + 1)) }
+    ensures next { IsNext ids.now result }
 {
+    if ids.is_empty() {
+        return 0;
+    }
+    let last = ids.len() - 1;
+    if ids[last] as usize == last {
+        return ids.len() as u32;
+    }
+    ids[run_of(ids)] - 1
+}
+
+// The place from which on the ids follow one another up to the last.
+fn run_of(ids: &[u32]) -> usize
+    requires some { 0 < length ids.now }
+    requires few { length ids.now < 2 ^ 32 }
+    ensures within { result < length ids.now }
+    ensures run { slice_index ids.now (length ids.now - 1) + result ≤ slice_index ids.now result + (length ids.now - 1) }
+    ensures before { (result ≡ 0) ⊎ (slice_index ids.now (result - 1) + (length ids.now - 1) < slice_index ids.now (length ids.now - 1) + (result - 1)) }
+{
+    let last = ids.len() - 1;
     let mut low = 0usize;
-    let mut high = ids.len();
-    'gap: while low < high {
+    let mut high = last;
+    'run: while low < high {
         let middle = low + (high - low) / 2;
-        if ids[middle] as usize == middle {
+        if (ids[middle] as usize) + last < (ids[last] as usize) + middle {
             low = middle + 1;
         } else {
             high = middle;
         }
     }
-    low as u32
+    low
 }

@@ -5,13 +5,13 @@ ghost use Rattle.std.specs.List.{All, concat, filter, find};
 ghost use Rattle.arti_tree.specs.ByKey.{by_key, KeysOnce};
 ghost use Rattle.arti_tree.specs.Pieces.{lists};
 ghost use Rattle.arti_tree.specs.Rows.{Row, ids, row_of, row_at, lies_in, lies_beneath, is_of, rank_of, folder_id, with_row, without_row, may_go, HasFolder, IsFolder, IsLive, IsTree};
-ghost use Rattle.arti_tree.specs.Ids.{AscendFrom};
+ghost use Rattle.arti_tree.specs.Ids.{AscendFrom, IsNext, TakesNext};
 ghost use Rattle.arti_tree.specs.Slots.{row_with};
 ghost use Rattle.arti_tree.specs.Searched.{key};
 ghost use Rattle.arti_tree.specs.Adds.{is_end, is_missing, is_file_at, keys_added, put_fault, Adds};
 ghost use Rattle.arti_rows.specs.Key.{folders_above, whole_of};
 ghost use Rattle.arti_rows.specs.Names.{key_fault};
-ghost use Rattle.arti_tree.specs.Chains.{CanAdd, Pushes};
+ghost use Rattle.arti_tree.specs.Chains.{CanAdd, Pushes, PushesNext};
 ghost use Rattle.arti_tree.specs.Renames.{AreWithin, is_within, key_for, moved_row, moved_whole, renamed, rename_fault, without_within, StayKeys};
 
 use crate::TreeFault;
@@ -246,6 +246,7 @@ impl Tree {
         requires folder { HasFolder self.old key }
         requires few { length self.old + 1 < 2 ^ 32 }
         ensures fresh { IfOk result (λ id. row_of self.old id ≡ None) }
+        ensures next { IfOk result (λ id. IsNext (ids self.old) id) }
         ensures added { IfOk result (λ id. self.new ≡ with_row (record { id = id; key = key; is_file = is_file }) self.old) }
         ensures unchanged { OnErr result (self.new ≡ self.old) }
     {
@@ -399,6 +400,7 @@ impl Tree {
         requires few { length self.old + length keys.items < 2 ^ 32 }
         requires room { vec_len ids.old + length keys.items ≤ vec_capacity ids.old }
         ensures added { OnOk result (Pushes self.old keys.items is_file ids.old.items ids.new.items self.new) }
+        ensures next { OnOk result (PushesNext self.old ids.old.items ids.new.items) }
         ensures unchanged { OnErr result (self.new ≡ self.old) }
     {
         if keys.is_empty() {
@@ -426,6 +428,7 @@ impl Tree {
     ) -> Result<Vec<u32>, TreeFault>
         ensures ok { OnOk result (put_fault self.old key limit ≡ None) }
         ensures added { IfOk result (λ ids. Adds self.old (keys_added self.old key) file ids.items self.new) }
+        ensures next { IfOk result (λ given. TakesNext (ids self.old) given.items) }
         ensures fault { IfErr result (λ e. e ≢ TreeFault.Memory → put_fault self.old key limit ≡ Some e) }
         ensures unchanged { OnErr result (self.new ≡ self.old) }
     {
