@@ -1,9 +1,9 @@
 // Lists of ids that ascend, each id once.
 ghost use Rattle.std.specs.Prelude.{[], ◌∷◌, ◌++◌, ◌≡◌, ◌≢◌, ℕ, ◌+◌, ◌-◌, ◌<◌, ◌≤◌, ◌^◌, ◌⊎◌, take, drop, length, slice_index, vec_len, vec_capacity, IfOk, IfErr, OnOk, OnErr};
 ghost use Rattle.arti_tree.specs.Ids.{AscendFrom, IsGap, IsNext, Lacks, with_id, without_id};
-ghost use Rattle.arti_tree.specs.Shifts.{lead, left_by, AreNew, with_ids, without_ids};
+ghost use Rattle.arti_tree.specs.Shifts.{lead, left_by, merge, AreNew, with_ids, without_ids};
 
-use std::alloc::AllocError;
+use std::alloc::{AllocError, Global};
 
 // Where an id stands in the list, or would stand.
 fn place_in(ids: &[u32], id: u32) -> Result<usize, usize>
@@ -45,28 +45,33 @@ pub(crate) fn add_ready(ids: &mut Vec<u32>, id: u32)
     let _ = add_id(ids, id);
 }
 
-/// Ids more, or none of them.
-pub(crate) fn add_ids(ids: &mut Vec<u32>, more: &[u32]) -> Result<(), AllocError>
+/// Ids more that ascend, in one pass, or none of them.
+pub(crate) fn add_ids(ids: &mut Vec<u32>, alloc: Global, more: &[u32]) -> Result<(), AllocError>
     requires ascend { AscendFrom 0 ids.old.items }
+    requires more_ascend { AscendFrom 0 more.now }
     requires absent { AreNew ids.old.items more.now }
     ensures more { OnOk result (ids.new.items ≡ with_ids more.now ids.old.items) }
     ensures unchanged { OnErr result (ids.new.items ≡ ids.old.items) }
 {
-    ids.reserve(more.len())?;
-    for id in more {
-        add_ready(ids, *id);
-    }
+    let all = merged(alloc, ids, more)?;
+    *ids = all;
     Ok(())
 }
 
-/// Ids less.
-pub(crate) fn drop_ids(ids: &mut Vec<u32>, fewer: &[u32])
-    requires { AscendFrom 0 ids.old.items }
-    ensures { ids.new.items ≡ without_ids fewer.now ids.old.items }
+// The ids of two lists that ascend as one.
+fn merged(alloc: Global, ids: &[u32], more: &[u32]) -> Result<Vec<u32>, AllocError>
+    ensures { IfOk result (λ v. v.items ≡ merge ids.now more.now) }
 {
-    for id in fewer {
-        drop_id(ids, *id);
+    let mut all = Vec::with_capacity(alloc, ids.len() + more.len())?;
+    let mut next = 0usize;
+    for id in ids {
+        let end = past(more, next, *id);
+        all.extend_from_slice(&more[next..end])?;
+        all.push(*id)?;
+        next = end;
     }
+    all.extend_from_slice(&more[next..])?;
+    Ok(all)
 }
 
 /// Ids less that ascend, in one pass.
