@@ -1,12 +1,12 @@
 -- What the kept lists say before a row is added.
-use Rattle.std.proofs.Common.{◌≡◌, ◌≢◌, ℕ, ◌-◌, ◌<◌, ◌≤◌, ◌⊎◌, ⊎_elim, zero, suc, Bool, true, false, cond, eqb, List, [], ◌∷◌, length, get_or, Option, Some, None, option_map, refl, sym, ap, ◌∙◌, subst, arith, Less, Greater}
+use Rattle.std.proofs.Common.{◌≡◌, ◌≢◌, ℕ, ◌+◌, ◌-◌, ◌<◌, ◌≤◌, ◌⊎◌, ⊎_elim, zero, suc, Bool, true, false, cond, eqb, List, [], ◌∷◌, length, get_or, Option, Some, None, option_map, refl, sym, ap, ◌∙◌, subst, arith, Less, Greater}
 use Rattle.std.specs.Prelude.{IfSome}
 use Rattle.std.specs.List.{filter, insert}
-use Rattle.std.proofs.lemmas.Bool.{cases_lt, eqb-false, ne_eqb}
+use Rattle.std.proofs.lemmas.Bool.{eqb-false, ne_eqb}
 use Rattle.std.proofs.lemmas.List.{length-map}
 use Rattle.arti_rows.specs.Key.{Key, key_cmp, same_key}
 use Rattle.arti_tree.specs.declared.slot.Slot.{Slot}
-use Rattle.arti_tree.specs.Ids.{AscendFrom, Lacks}
+use Rattle.arti_tree.specs.Ids.{AscendFrom, IsNext, Lacks}
 use Rattle.arti_tree.specs.Rows.{Row, ids, row_of, row_at, has_folder, folder_of, folder_id, lies_in, is_of, with_row, RowsFrom}
 use Rattle.arti_tree.specs.Slots.{at, row_with, live, key_at}
 use Rattle.arti_tree.specs.Kept.{inside, Ordered, Kept}
@@ -82,18 +82,24 @@ module _ (slots : List (Option Slot)) (all order : List ℕ) (lists : ℕ → Li
   repo_lacks id q lacks = subst (λ (l : List ℕ). Lacks l id) (sym (kept.repos_are q)) (filter_lacks (is_of q) rows id (free_row id lacks))
 
   -- the slots reach up to a free id
-  live_below : (n : ℕ) → n < length all → get_or all n 0 ≡ n → n < length slots
-  live_below n below is = by_slot (at slots n) refl
+  live_below : (k n : ℕ) → k < length all → get_or all k 0 ≡ n → n < length slots
+  live_below k n below is = by_slot (at slots n) refl
     where
       by_slot : (o : Option Slot) → at slots n ≡ o → n < length slots
       by_slot None e =
           let none : row_of rows n ≡ None = row_of_live n slots ∙ ap (option_map (row_with n)) e in
           let lacks : Lacks all n = subst (λ (l : List ℕ). Lacks l n) (sym kept.all_is) (row_lacks rows n none) in
-          absurd (lacks n below is)
+          absurd (lacks k below is)
       by_slot (Some s) e = slot_within slots n s e
 
-  pub id_within : (id : ℕ) → id ≤ length all → (id ≡ 0) ⊎ (get_or all (id - 1) 0 ≡ id - 1) → id ≤ length slots
-  id_within id le next = ⊎_elim (λ (e : id ≡ 0). omega arith) (λ (e : get_or all (id - 1) 0 ≡ id - 1). ⊎_elim (λ (z : id < 1). omega arith) (λ (p : 1 ≤ id). omega (arith, live_below (id - 1) (omega arith) e)) (cases_lt id 1)) next
+  pub id_within : (id : ℕ) → (id ≡ 0) ⊎ ((0 < length all) × (id ≤ get_or all (length all - 1) 0 + 1)) → id ≤ length slots
+  id_within id within =
+      ⊎_elim (λ (e : id ≡ 0). omega (arith, e))
+      (λ (h : (0 < length all) × (id ≤ get_or all (length all - 1) 0 + 1)). omega (arith, h.1, live_below (length all - 1) (get_or all (length all - 1) 0) (omega (arith, h.0)) refl)) within
+
+  -- an id that is next behind all is so behind the rows
+  pub next_row : (id : ℕ) → IsNext all id → IsNext (ids rows) id
+  next_row id next = subst (λ (l : List ℕ). IsNext l id) kept.all_is next
 
   found_within : (o : Option Row) (k : Key) → row_at rows k ≡ o → IfSome (option_map (λ (r : Row). r.id) o) (λ f. f < length slots)
   found_within None k is = tt

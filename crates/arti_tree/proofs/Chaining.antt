@@ -4,11 +4,11 @@ use Rattle.std.specs.Prelude.{◌&&◌, not, nat_lt}
 use Rattle.std.specs.List.{find, remove}
 use Rattle.std.proofs.lemmas.Bool.{eqb-true, eqb-false, eq-eqb, false_from_ne_true}
 use Rattle.arti_rows.specs.Key.{Key, whole_of, same_key}
-use Rattle.arti_tree.specs.Ids.{Lacks}
-use Rattle.arti_tree.specs.Rows.{Row, row_of, row_at, has_folder, folder_of, lies_in, with_row, without_row, IsLive, IsTree}
+use Rattle.arti_tree.specs.Ids.{IsNext, Lacks, TakesNext}
+use Rattle.arti_tree.specs.Rows.{Row, ids, row_of, row_at, has_folder, folder_of, lies_in, with_row, without_row, IsLive, IsTree}
 use Rattle.arti_tree.specs.Adds.{AreFree, is_end}
-use Rattle.arti_tree.specs.Chains.{CanAdd, Leads, Pushes}
-use Rattle.arti_tree.proofs.RowLists.{find_with_no, find_with_yes, cond_none, without_none}
+use Rattle.arti_tree.specs.Chains.{CanAdd, Leads, Pushes, PushesNext}
+use Rattle.arti_tree.proofs.RowLists.{ids_with, find_with_no, find_with_yes, cond_none, without_none}
 use Rattle.arti_tree.proofs.Rises.{found_live, found_passes}
 use Rattle.arti_tree.proofs.Above.{shorter}
 use Rattle.arti_tree.proofs.Growing.{Fresh, none_in_new, tree_more, long_more}
@@ -70,6 +70,20 @@ pushes_more rows new k keys is_file before after id none p =
       pushed = p.pushed ∙ append_assoc before (id ∷ []) p.ids;
       adds = record { each = omega (arith, p.adds.each); free = (none, back.0, back.1); added = p.adds.added };
     }
+
+pub next_none : (rows : List Row) (before : List ℕ) → PushesNext rows before before
+next_none rows before = record { more = []; pushed = sym (append-nil before); next = tt }
+
+pub next_more : (rows : List Row) (r : Row) (before after : List ℕ) → IsNext (ids rows) r.id → PushesNext (with_row r rows) (before ++ r.id ∷ []) after → PushesNext rows before after
+next_more rows r before after next p = record {
+  more = r.id ∷ p.more;
+  pushed = p.pushed ∙ append_assoc before (r.id ∷ []) p.more;
+  next = (next, subst (λ (l : List ℕ). TakesNext l p.more) (ids_with r rows) p.next);
+}
+
+-- behind none they are all
+pub next_all : (rows : List Row) (after : List ℕ) → PushesNext rows [] after → TakesNext (ids rows) after
+next_all rows after p = subst (λ (l : List ℕ). TakesNext (ids rows) l) (sym p.pushed) p.next
 
 and_false : (b : Bool) → (b && false) ≡ false
 and_false true = refl

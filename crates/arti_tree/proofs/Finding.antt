@@ -139,6 +139,13 @@ pub found_by : (rows : List Row) (p : Row → Bool) (i : ℕ) (o : Option Row) �
 found_by rows p i None up is e = cc
 found_by rows p i (Some x) up is e = (x, found_live (λ r. eqb r.id i) 0 rows x up is, eqb-true x.id i (found_passes (λ r. eqb r.id i) rows x is), is, e)
 
+-- the row of an id that stands among those within a key
+pub found_at : (rows : List Row) (from : Key) (w : List ℕ) (n : ℕ) → RowsFrom 0 rows → AreWithin rows from w → n < length w → Found rows from (get_or w n 0)
+found_at rows from w n up is_w below =
+    let i : ℕ = get_or w n 0 in
+    let x = found_by rows (λ r. is_within from r.key) i (row_of rows i) up refl (sym (is_w.each i) ∙ at_has w n below) in
+    record { row = x.0; live = x.1; is = x.2; of = x.3; within = x.4 }
+
 module _ (rows : List Row) (from : Key) (tree : IsTree rows) (from_is : IsKey from) (r : Row) (r_live : IsLive rows r) (r_key : r.key ≡ from) where
   -- a row within isn't the folder of the top one
   not_above : (p : Row) → IsLive rows p → is_within from p.key ≡ true → lies_in p.key r ≡ true → ⊥

@@ -3,7 +3,7 @@ use Rattle.std.proofs.Common.{◌≡◌, ◌≢◌, ℕ, ◌+◌, ◌-◌, ◌<�
 use Rattle.std.specs.Prelude.{nat_lt, not}
 use Rattle.std.specs.List.{insert, remove}
 use Rattle.std.proofs.lemmas.Bool.{ne_eqb, cases_lt, ltb-true, ltb-false, lt-ltb, le-ltb, eq-eqb}
-use Rattle.arti_tree.specs.Ids.{AscendFrom, IsGap, Lacks, with_id, without_id}
+use Rattle.arti_tree.specs.Ids.{AscendFrom, IsGap, IsNext, Lacks, with_id, without_id}
 
 zero_or : (n : ℕ) → (n ≡ 0) ⊎ (0 < n)
 zero_or zero = inl refl
@@ -28,6 +28,20 @@ rises_or_same n (x ∷ xs) up zero zero less below = omega arith
 rises_or_same n (x ∷ xs) up (suc i) zero less below = absurd (omega arith)
 rises_or_same n (x ∷ xs) up zero (suc j) less below = omega (arith, least (x + 1) xs up.1 j (omega arith))
 rises_or_same n (x ∷ xs) up (suc i) (suc j) less below = rises_or_same (x + 1) xs up.1 i j (omega arith) (omega arith)
+
+-- each is as far from the start as its place at least
+pub far : (n : ℕ) (xs : List ℕ) → AscendFrom n xs → (i : ℕ) → i < length xs → n + i ≤ get_or xs i 0
+far n [] up i below = absurd (omega arith)
+far n (x ∷ xs) up zero below = omega (arith, up.0)
+far n (x ∷ xs) up (suc i) below = omega (arith, up.0, far (x + 1) xs up.1 i (omega arith))
+
+-- two are as far from each other as their places at least
+pub spread : (n : ℕ) (xs : List ℕ) → AscendFrom n xs → (i j : ℕ) → i ≤ j → j < length xs → get_or xs i 0 + j ≤ get_or xs j 0 + i
+spread n [] up i j le below = absurd (omega arith)
+spread n (x ∷ xs) up zero zero le below = omega arith
+spread n (x ∷ xs) up (suc i) zero le below = absurd (omega arith)
+spread n (x ∷ xs) up zero (suc j) le below = omega (arith, far (x + 1) xs up.1 j (omega arith))
+spread n (x ∷ xs) up (suc i) (suc j) le below = omega (arith, spread (x + 1) xs up.1 i j (omega arith) (omega arith))
 
 -- an insert between the lesser and the greater ones
 pub insert_at : (id : ℕ) (xs : List ℕ) (i : ℕ) → i ≤ length xs → ((k : ℕ) → k < i → get_or xs k 0 < id) → ((k : ℕ) → i ≤ k → k < length xs → id < get_or xs k 0) → insert xs i id ≡ with_id id xs
@@ -58,17 +72,6 @@ lacking id [] lacks = refl
 lacking id (x ∷ xs) lacks =
     ap (λ b. cond (not b) (x ∷ without_id id xs) (without_id id xs)) (ne_eqb x id (lacks 0 (omega arith))) ∙ ap (λ l. x ∷ l) (lacking id xs (λ k h. lacks (suc k) (omega arith)))
 
--- a number that the ids below it reach, and that isn't at its own place
-pub free : (xs : List ℕ) (n : ℕ) → AscendFrom 0 xs → n ≤ length xs → (n ≡ 0) ⊎ (get_or xs (n - 1) 0 ≡ n - 1) → (n < length xs → get_or xs n 0 ≢ n) → Lacks xs n
-free xs n up le last here k below is =
-    ⊎_elim
-    (λ (k_below : k < n). ⊎_elim (λ (e : n ≡ 0). omega arith) (λ (e : get_or xs (n - 1) 0 ≡ n - 1). ⊎_elim (λ (l : k < n - 1). omega (arith, rises 0 xs up k (n - 1) l (omega arith))) (λ (l : n - 1 ≤ k). let same : k ≡ n - 1 = omega arith in let there : get_or xs k 0 ≡ get_or xs (n - 1) 0 = ap (λ i. get_or xs i 0) same in omega (arith, there)) (cases_lt k (n - 1))) last)
-    (λ (k_above : n ≤ k).
-    let at_n : n ≤ get_or xs n 0 = ⊎_elim (λ (e : n ≡ 0). omega arith) (λ (e : get_or xs (n - 1) 0 ≡ n - 1). ⊎_elim (λ (z : n ≡ 0). omega arith) (λ (p : 0 < n). omega (arith, rises 0 xs up (n - 1) n (omega arith) (omega arith))) (zero_or n)) last in
-    let above_n : get_or xs n 0 ≤ get_or xs k 0 = rises_or_same 0 xs up n k k_above below in
-    here (omega arith) (omega arith))
-    (cases_lt k n)
-
 pub insert_gap : (id : ℕ) (xs : List ℕ) (i : ℕ) → IsGap xs id i → insert xs i id ≡ with_id id xs
 insert_gap id xs i gap = insert_at id xs i gap.within gap.before gap.behind
 
@@ -97,3 +100,48 @@ undone id [] lacks = ap (λ b. cond (not b) (id ∷ []) []) (eq-eqb id id refl)
 undone id (x ∷ xs) lacks =
     let rest : Lacks xs id = λ k h. lacks (suc k) (omega arith) in
     undone_by (nat_lt id x) id x xs (with_id id xs) (lacks 0 (omega arith)) (lacking id xs rest) (undone id xs rest)
+
+-- the first id
+pub first_next : (xs : List ℕ) → length xs ≡ 0 → IsNext xs 0
+first_next xs none = record {
+  place = 0;
+  gap = record { within = omega arith; before = λ k h. absurd (omega arith); behind = λ k le below. absurd (omega (arith, none)) };
+  run = λ k le below. absurd (omega (arith, none));
+  dense = λ e. e;
+}
+
+-- the id behind all, where they leave none out
+pub last_next : (xs : List ℕ) → AscendFrom 0 xs → 0 < length xs → get_or xs (length xs - 1) 0 ≡ length xs - 1 → IsNext xs (length xs)
+last_next xs up some is = record {
+  place = length xs;
+  gap = record {
+    within = omega arith;
+    before = λ k h. omega (arith, some, is, spread 0 xs up k (length xs - 1) (omega (arith, h)) (omega (arith, some)));
+    behind = λ k le below. absurd (omega (arith, le, below));
+  };
+  run = λ k le below. absurd (omega (arith, le, below));
+  dense = λ e. refl;
+}
+
+-- the id before those that follow one another
+pub run_next : (xs : List ℕ) (p id : ℕ) → AscendFrom 0 xs → p < length xs → get_or xs (length xs - 1) 0 + p ≤ get_or xs p 0 + (length xs - 1)
+    → (p ≡ 0) ⊎ (get_or xs (p - 1) 0 + (length xs - 1) < get_or xs (length xs - 1) 0 + (p - 1)) → get_or xs p 0 ≡ id + 1 → IsNext xs id
+run_next xs p id up within run before is = record {
+  place = p;
+  gap = record {
+    within = omega (arith, within);
+    before = λ k h. ⊎_elim (λ (z : p ≡ 0). absurd (omega (arith, h, z))) (λ (b : get_or xs (p - 1) 0 + (length xs - 1) < get_or xs (length xs - 1) 0 + (p - 1)). omega (arith, h, b, run, is, within, rises_or_same 0 xs up k (p - 1) (omega (arith, h)) (omega (arith, within)))) before;
+    behind = λ k le below. omega (arith, is, rises_or_same 0 xs up p k le below);
+  };
+  run = λ k le below. omega (arith, is, run, within, le, below, spread 0 xs up p k le below, spread 0 xs up k (length xs - 1) (omega (arith, below)) (omega (arith, within)));
+  dense = λ e. absurd (omega (arith, e, within));
+}
+
+pub next_lacks : (xs : List ℕ) (id : ℕ) → IsNext xs id → Lacks xs id
+next_lacks xs id next = gap_lacks id xs next.place next.gap
+
+-- where the last isn't at its own place, none of those that follow one another up to it is
+pub above : (xs : List ℕ) (p : ℕ) → AscendFrom 0 xs → 0 < length xs → get_or xs (length xs - 1) 0 ≢ length xs - 1 → get_or xs (length xs - 1) 0 + p ≤ get_or xs p 0 + (length xs - 1) → 1 ≤ get_or xs p 0
+above xs p up some more run =
+    let le : 0 + (length xs - 1) ≤ get_or xs (length xs - 1) 0 = far 0 xs up (length xs - 1) (omega (arith, some)) in
+    ⊎_elim (λ (l : length xs - 1 < get_or xs (length xs - 1) 0). omega (arith, l, run)) (λ (g : get_or xs (length xs - 1) 0 ≤ length xs - 1). absurd (more (omega (arith, le, g)))) (cases_lt (length xs - 1) (get_or xs (length xs - 1) 0))

@@ -1,12 +1,14 @@
--- What ids leave of others, where both ascend.
-use Rattle.std.proofs.Common.{◌≡◌, ℕ, ◌+◌, ◌<◌, ◌≤◌, suc, Bool, true, false, cond, List, [], ◌∷◌, length, drop, refl, sym, ap, ◌∙◌, arith, ⊎_elim}
+-- Lists of ids that ascend: what one leaves of the other, and the two as one.
+use Rattle.std.proofs.Common.{◌≡◌, ◌≢◌, ℕ, ◌+◌, ◌<◌, ◌≤◌, suc, Bool, true, false, cond, List, [], ◌∷◌, ◌++◌, length, take, drop, refl, sym, ap, ◌∙◌, arith, ⊎_elim}
 use Rattle.std.specs.Prelude.{◌||◌, ◌&&◌, ◌==◌, not, nat_lt}
-use Rattle.std.proofs.lemmas.Bool.{eqb-true, eq-eqb, ne_eqb, ltb-true, ltb-false, cases_Bool}
-use Rattle.arti_tree.specs.Ids.{AscendFrom}
+use Rattle.std.proofs.lemmas.Bool.{eqb-true, eqb-false, eq-eqb, ne_eqb, ltb-true, ltb-false, false_from_ne_true, cases_Bool}
+use Rattle.std.proofs.lemmas.List.{take-append-drop}
+use Rattle.arti_tree.specs.Ids.{AscendFrom, Lacks, with_id}
 use Rattle.arti_tree.specs.Renames.{has}
-use Rattle.arti_tree.specs.Shifts.{lead, begins, left_by, without_ids}
+use Rattle.arti_tree.specs.Shifts.{lead, begins, left_by, merge, with_ids, without_ids, AreNew}
 use Rattle.arti_tree.proofs.RowLists.{lower_ids}
-use Rattle.arti_tree.proofs.Members.{below_first, same_members, has_without_ids, without_ids_ascend}
+use Rattle.arti_tree.proofs.Members.{below_first, first_has, same_members, has_with, has_with_ids, has_without_ids, with_ids_ascend, without_ids_ascend, false_true}
+use Rattle.arti_tree.proofs.Finding.{has_append, place_of_id}
 
 -- ---- the ids at the front that are less
 
@@ -115,3 +117,86 @@ pub left_by_is : (others xs : List ℕ) → AscendFrom 0 others → AscendFrom 0
 left_by_is others xs to up =
     same_members 0 0 (left_by others xs) (without_ids others xs) (left_ascends 0 others xs up) (without_ids_ascend others xs up)
     (λ i. left_has 0 0 others xs i to up ∙ sym (has_without_ids others xs i))
+
+-- ---- two lists as one
+
+front_by : (b : Bool) (n x m k : ℕ) (ms rest : List ℕ) → nat_lt m x ≡ b → AscendFrom n (m ∷ ms) → n ≤ x → AscendFrom (x + 1) rest → (m + 1 ≤ x → AscendFrom (m + 1) (take k ms ++ x ∷ rest))
+    → AscendFrom n (take (cond b (suc k) 0) (m ∷ ms) ++ x ∷ rest)
+front_by true n x m k ms rest is up le behind more = (up.0, more (let less = ltb-true m x is in omega arith))
+front_by false n x m k ms rest is up le behind more = (le, behind)
+
+front_ascends : (n x : ℕ) (more rest : List ℕ) → AscendFrom n more → n ≤ x → AscendFrom (x + 1) rest → AscendFrom n (take (lead x more) more ++ x ∷ rest)
+front_ascends n x [] rest up le behind = (le, behind)
+front_ascends n x (m ∷ ms) rest up le behind = front_by (nat_lt m x) n x m (lead x ms) ms rest refl up le behind (λ more. front_ascends (m + 1) x ms rest up.1 more behind)
+
+past_by : (b : Bool) (x m k : ℕ) (ms : List ℕ) → nat_lt m x ≡ b → (m == x) ≡ false → AscendFrom (m + 1) ms → AscendFrom (x + 1) (drop k ms) → AscendFrom (x + 1) (drop (cond b (suc k) 0) (m ∷ ms))
+past_by true x m k ms is ne up more = more
+past_by false x m k ms is ne up more = (let le = ltb-false m x is in let differ : m ≢ x = eqb-false m x ne in omega arith, up)
+
+or_false_left : (a b : Bool) → (a || b) ≡ false → a ≡ false
+or_false_left true b e = cc
+or_false_left false b e = refl
+
+or_false_right : (a b : Bool) → (a || b) ≡ false → b ≡ false
+or_false_right true b e = cc
+or_false_right false b e = e
+
+-- behind the lesser ones all are greater
+past_ascends : (n x : ℕ) (more : List ℕ) → AscendFrom n more → has more x ≡ false → AscendFrom (x + 1) (drop (lead x more) more)
+past_ascends n x [] up none = tt
+past_ascends n x (m ∷ ms) up none =
+    past_by (nat_lt m x) x m (lead x ms) ms refl (or_false_left (m == x) (has ms x) none) up.1 (past_ascends (m + 1) x ms up.1 (or_false_right (m == x) (has ms x) none))
+
+later_none : (x i : ℕ) (more : List ℕ) → has more i ≡ false → has (drop (lead x more) more) i ≡ false
+later_none x i more none = or_false_right (has (take (lead x more) more) i) (has (drop (lead x more) more) i) (sym (has_append (take (lead x more) more) (drop (lead x more) more) i) ∙ ap (λ (l : List ℕ). has l i) (take-append-drop (lead x more) more) ∙ none)
+
+-- no id stands in both
+record Apart (xs more : List ℕ) : Type 0 where
+  pub none : (i : ℕ) → has xs i ≡ true → has more i ≡ false
+
+or_true_right : (a b : Bool) → b ≡ true → (a || b) ≡ true
+or_true_right true b e = refl
+or_true_right false b e = e
+
+merge_ascends : (k : ℕ) (xs more : List ℕ) → AscendFrom k xs → AscendFrom k more → Apart xs more → AscendFrom k (merge xs more)
+merge_ascends k [] more up to apart = to
+merge_ascends k (x ∷ xs) more up to apart =
+    let rest = drop (lead x more) more in
+    let behind : AscendFrom (x + 1) rest = past_ascends k x more to (apart.none x (first_has x xs)) in
+    front_ascends k x more (merge xs rest) to up.0 (merge_ascends (x + 1) xs rest up.1 behind (record { none = λ i e. later_none x i more (apart.none i (or_true_right (x == i) (has xs i) e)) }))
+
+merge_has : (xs more : List ℕ) (i : ℕ) → has (merge xs more) i ≡ (has more i || has xs i)
+merge_has [] more i = sym (or_none (has more i))
+merge_has (x ∷ xs) more i =
+    let front = take (lead x more) more in
+    let rest = drop (lead x more) more in
+    has_append front (x ∷ merge xs rest) i ∙ ap (λ t. has front i || ((x == i) || t)) (merge_has xs rest i) ∙ by (has front i) (x == i) (has rest i) (has xs i)
+    ∙ ap (λ t. t || ((x == i) || has xs i)) (sym (has_append front rest i) ∙ ap (λ (l : List ℕ). has l i) (take-append-drop (lead x more) more))
+  where
+    by : (a b c d : Bool) → a || (b || (c || d)) ≡ (a || c) || (b || d)
+    by true b c d = refl
+    by false true true d = refl
+    by false true false d = refl
+    by false false true d = refl
+    by false false false d = refl
+
+lacks_has : (xs : List ℕ) (i : ℕ) → Lacks xs i → has xs i ≡ false
+lacks_has xs i lacks = by (has xs i) refl
+  where
+    by : (b : Bool) → has xs i ≡ b → has xs i ≡ false
+    by true e = let p = place_of_id xs i e in absurd (lacks p.0 p.1 p.2)
+    by false e = e
+
+new_apart : (ids xs : List ℕ) (i : ℕ) → AreNew xs ids → has ids i ≡ true → has xs i ≡ false
+new_apart [] xs i new e = cc
+new_apart (id ∷ ids) xs i new e = ⊎_elim
+    (λ (a : (id == i) ≡ true). ap (has xs) (sym (eqb-true id i a)) ∙ lacks_has xs id new.0)
+    (λ (b : (id == i) ≡ false). or_false_right (id == i) (has xs i) (sym (has_with id xs i) ∙ new_apart ids (with_id id xs) i new.1 (sym (ap (λ t. t || has ids i) b) ∙ e)))
+    (cases_Bool (id == i))
+
+pub merge_is : (xs more : List ℕ) → AscendFrom 0 xs → AscendFrom 0 more → AreNew xs more → merge xs more ≡ with_ids more xs
+merge_is xs more up to new =
+    same_members 0 0 (merge xs more) (with_ids more xs)
+    (merge_ascends 0 xs more up to (record { none = λ i e. false_from_ne_true (has more i) (λ there. false_true (has xs i) (new_apart more xs i new there) e) }))
+    (with_ids_ascend more xs up new)
+    (λ i. merge_has xs more i ∙ sym (has_with_ids more xs i))

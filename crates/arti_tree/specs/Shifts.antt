@@ -1,5 +1,5 @@
 -- Ids that leave one list for another.
-use Rattle.std.specs.Prelude.{ℕ, suc, ◌==◌, nat_lt, Bool, false, if◌then◌else◌, List, [], ◌∷◌, drop}
+use Rattle.std.specs.Prelude.{ℕ, suc, ◌==◌, nat_lt, Bool, false, if◌then◌else◌, List, [], ◌∷◌, ◌++◌, take, drop}
 use Rattle.arti_tree.specs.Ids.{Lacks, with_id, without_id}
 
 -- with ids more, one after the other
@@ -30,6 +30,11 @@ lead id (x ∷ ids) = if nat_lt x id then suc (lead id ids) else 0
 abbrev pub begins : ℕ → List ℕ → Bool
 begins id [] = false
 begins id (x ∷ ids) = x == id
+
+-- the ids of two lists that ascend as one
+abbrev pub merge : List ℕ → List ℕ → List ℕ
+merge [] more = more
+merge (x ∷ ids) more = take (lead x more) more ++ x ∷ merge ids (drop (lead x more) more)
 
 -- the ids that others leave, where both ascend
 abbrev pub left_by : List ℕ → List ℕ → List ℕ

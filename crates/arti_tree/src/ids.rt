@@ -1,9 +1,9 @@
 // Lists of ids that ascend, each id once.
 ghost use Rattle.std.specs.Prelude.{[], ◌∷◌, ◌++◌, ◌≡◌, ◌≢◌, ℕ, ◌+◌, ◌-◌, ◌<◌, ◌≤◌, ◌^◌, ◌⊎◌, take, drop, length, slice_index, vec_len, vec_capacity, IfOk, IfErr, OnOk, OnErr};
-ghost use Rattle.arti_tree.specs.Ids.{AscendFrom, IsGap, Lacks, with_id, without_id};
-ghost use Rattle.arti_tree.specs.Shifts.{lead, left_by, AreNew, with_ids, without_ids};
+ghost use Rattle.arti_tree.specs.Ids.{AscendFrom, IsGap, IsNext, Lacks, with_id, without_id};
+ghost use Rattle.arti_tree.specs.Shifts.{lead, left_by, merge, AreNew, with_ids, without_ids};
 
-use std::alloc::AllocError;
+use std::alloc::{AllocError, Global};
 
 // Where an id stands in the list, or would stand.
 fn place_in(ids: &[u32], id: u32) -> Result<usize, usize>
@@ -45,28 +45,33 @@ pub(crate) fn add_ready(ids: &mut Vec<u32>, id: u32)
     let _ = add_id(ids, id);
 }
 
-/// Ids more, or none of them.
-pub(crate) fn add_ids(ids: &mut Vec<u32>, more: &[u32]) -> Result<(), AllocError>
+/// Ids more that ascend, in one pass, or none of them.
+pub(crate) fn add_ids(ids: &mut Vec<u32>, alloc: Global, more: &[u32]) -> Result<(), AllocError>
     requires ascend { AscendFrom 0 ids.old.items }
+    requires more_ascend { AscendFrom 0 more.now }
     requires absent { AreNew ids.old.items more.now }
     ensures more { OnOk result (ids.new.items ≡ with_ids more.now ids.old.items) }
     ensures unchanged { OnErr result (ids.new.items ≡ ids.old.items) }
 {
-    ids.reserve(more.len())?;
-    for id in more {
-        add_ready(ids, *id);
-    }
+    let all = merged(alloc, ids, more)?;
+    *ids = all;
     Ok(())
 }
 
-/// Ids less.
-pub(crate) fn drop_ids(ids: &mut Vec<u32>, fewer: &[u32])
-    requires { AscendFrom 0 ids.old.items }
-    ensures { ids.new.items ≡ without_ids fewer.now ids.old.items }
+// The ids of two lists that ascend as one.
+fn merged(alloc: Global, ids: &[u32], more: &[u32]) -> Result<Vec<u32>, AllocError>
+    ensures { IfOk result (λ v. v.items ≡ merge ids.now more.now) }
 {
-    for id in fewer {
-        drop_id(ids, *id);
+    let mut all = Vec::with_capacity(alloc, ids.len() + more.len())?;
+    let mut next = 0usize;
+    for id in ids {
+        let end = past(more, next, *id);
+        all.extend_from_slice(&more[next..end])?;
+        all.push(*id)?;
+        next = end;
     }
+    all.extend_from_slice(&more[next..])?;
+    Ok(all)
 }
 
 /// Ids less that ascend, in one pass.
@@ -132,23 +137,42 @@ pub(crate) fn push_ready(ids: &mut Vec<u32>, id: u32)
     let _ = ids.push(id);
 }
 
-/// The least number that is no id of the list.
+/// The greatest number below the last of the ids that is none of them, or the next behind it where they leave none out.
 pub(crate) fn free_id(ids: &[u32]) -> u32
     requires ascend { AscendFrom 0 ids.now }
     requires few { length ids.now < 2 ^ 32 }
     ensures absent { Lacks ids.now result }
-    ensures within { result ≤ length ids.now }
-    ensures next { (result ≡ 0) ⊎ (slice_index ids.now (result - 1) ≡ result - 1) }
+    ensures within { (result ≡ 0) ⊎ ((0 < length ids.now) × (result ≤ slice_index ids.now (length ids.now - 1) + 1)) }
+    ensures next { IsNext ids.now result }
 {
+    if ids.is_empty() {
+        return 0;
+    }
+    let last = ids.len() - 1;
+    if ids[last] as usize == last {
+        return ids.len() as u32;
+    }
+    ids[run_of(ids)] - 1
+}
+
+// The place from which on the ids follow one another up to the last.
+fn run_of(ids: &[u32]) -> usize
+    requires some { 0 < length ids.now }
+    requires few { length ids.now < 2 ^ 32 }
+    ensures within { result < length ids.now }
+    ensures run { slice_index ids.now (length ids.now - 1) + result ≤ slice_index ids.now result + (length ids.now - 1) }
+    ensures before { (result ≡ 0) ⊎ (slice_index ids.now (result - 1) + (length ids.now - 1) < slice_index ids.now (length ids.now - 1) + (result - 1)) }
+{
+    let last = ids.len() - 1;
     let mut low = 0usize;
-    let mut high = ids.len();
-    'gap: while low < high {
+    let mut high = last;
+    'run: while low < high {
         let middle = low + (high - low) / 2;
-        if ids[middle] as usize == middle {
+        if (ids[middle] as usize) + last < (ids[last] as usize) + middle {
             low = middle + 1;
         } else {
             high = middle;
         }
     }
-    low as u32
+    low
 }

@@ -124,7 +124,8 @@ pub(crate) fn enter_both(
     Ok(())
 }
 
-/// Rows leave a repository for another, and one of them a folder for another; or nothing changes. Where the two are the same there is nothing to do.
+/// Rows whose ids ascend leave a repository for another, and one of them a folder for another; or nothing changes. Where the two are
+/// the same there is nothing to do.
 pub(crate) fn shift_both(
     children: &mut Children,
     repos: &mut Repos,
@@ -138,6 +139,7 @@ pub(crate) fn shift_both(
     requires ascend { (i : ℕ) → AscendFrom 0 (list_at children.old i) }
     requires absent { (i : ℕ) → is_it folders.0 i ≡ false → Lacks (list_at children.old i) id }
     requires repos_ascend { (q : List ℕ) → AscendFrom 0 (list_of repos.old q) }
+    requires ids_ascend { AscendFrom 0 ids.now }
     requires repos_lack { bytes_eq from.now to.now ≡ false → AreNew (list_of repos.old to.now) ids.now }
     ensures folders { OnOk result ((i : ℕ) → list_at children.new i ≡ shifted (is_it folders.0 i) (is_it folders.1 i) (id ∷ []) (list_at children.old i)) }
     ensures repos { OnOk result ((q : List ℕ) → list_of repos.new q ≡ shifted (bytes_eq q from.now) (bytes_eq q to.now) ids.now (list_of repos.old q)) }

@@ -5,7 +5,7 @@ ghost use Rattle.arti_tree.specs.Ids.{AscendFrom, Lacks, with_id, without_id};
 ghost use Rattle.arti_tree.specs.Repos.{list_of};
 ghost use Rattle.arti_tree.specs.Shifts.{AreNew, shifted, with_ids, without_ids};
 
-use crate::ids::{add_id, add_ids, drop_ascending, drop_id, drop_ids};
+use crate::ids::{add_id, add_ids, drop_ascending, drop_id};
 use std::alloc::{AllocError, Global};
 use std::collections::BTreeMap;
 
@@ -51,33 +51,24 @@ pub(crate) fn leave(repos: &mut Repos, repo: &str, id: u32)
     }
 }
 
-// Rows more in a repository, or none of them.
+// Rows more in a repository, whose ids ascend, or none of them.
 fn enter_all(repos: &mut Repos, alloc: Global, repo: &str, ids: &[u32]) -> Result<(), AllocError>
     requires ascend { AscendFrom 0 (list_of repos.old repo.now) }
+    requires ids_ascend { AscendFrom 0 ids.now }
     requires absent { AreNew (list_of repos.old repo.now) ids.now }
     ensures more { OnOk result ((q : List ℕ) → list_of repos.new q ≡ (if bytes_eq q repo.now then with_ids ids.now (list_of repos.old q) else list_of repos.old q)) }
     ensures unchanged { OnErr result ((q : List ℕ) → list_of repos.new q ≡ list_of repos.old q) }
 {
     if let Some(list) = repos.get_mut(repo) {
-        if let Err(error) = add_ids(list, ids) {
+        if let Err(error) = add_ids(list, alloc, ids) {
             return Err(error);
         }
         return Ok(());
     }
     let mut list = Vec::new(alloc);
-    add_ids(&mut list, ids)?;
+    add_ids(&mut list, alloc, ids)?;
     repos.insert(String::from_str(alloc, repo)?, list)?;
     Ok(())
-}
-
-// Rows less in a repository.
-fn leave_all(repos: &mut Repos, repo: &str, ids: &[u32])
-    requires { AscendFrom 0 (list_of repos.old repo.now) }
-    ensures { (q : List ℕ) → list_of repos.new q ≡ (if bytes_eq q repo.now then without_ids ids.now (list_of repos.old q) else list_of repos.old q) }
-{
-    if let Some(list) = repos.get_mut(repo) {
-        drop_ids(list, ids);
-    }
 }
 
 /// Rows less in a repository, whose ids ascend.
@@ -91,7 +82,7 @@ pub(crate) fn leave_ascending(repos: &mut Repos, repo: &str, ids: &[u32])
     }
 }
 
-/// Rows leave a repository for another, or stay where that is the same one.
+/// Rows whose ids ascend leave a repository for another, or stay where that is the same one.
 pub(crate) fn shift_repos(
     repos: &mut Repos,
     alloc: Global,
@@ -100,6 +91,7 @@ pub(crate) fn shift_repos(
     ids: &[u32],
 ) -> Result<(), AllocError>
     requires ascend { (q : List ℕ) → AscendFrom 0 (list_of repos.old q) }
+    requires ids_ascend { AscendFrom 0 ids.now }
     requires absent { bytes_eq from.now to.now ≡ false → AreNew (list_of repos.old to.now) ids.now }
     ensures shifted { OnOk result ((q : List ℕ) → list_of repos.new q ≡ shifted (bytes_eq q from.now) (bytes_eq q to.now) ids.now (list_of repos.old q)) }
     ensures unchanged { OnErr result ((q : List ℕ) → list_of repos.new q ≡ list_of repos.old q) }
@@ -108,6 +100,6 @@ pub(crate) fn shift_repos(
         return Ok(());
     }
     enter_all(repos, alloc, to, ids)?;
-    leave_all(repos, from, ids);
+    leave_ascending(repos, from, ids);
     Ok(())
 }

@@ -5,13 +5,13 @@ ghost use Rattle.std.specs.List.{All, concat, filter, find};
 ghost use Rattle.arti_tree.specs.ByKey.{by_key, KeysOnce};
 ghost use Rattle.arti_tree.specs.Pieces.{lists};
 ghost use Rattle.arti_tree.specs.Rows.{Row, ids, row_of, row_at, lies_in, lies_beneath, is_of, rank_of, folder_id, with_row, without_row, may_go, HasFolder, IsFolder, IsLive, IsTree};
-ghost use Rattle.arti_tree.specs.Ids.{AscendFrom};
+ghost use Rattle.arti_tree.specs.Ids.{AscendFrom, IsNext, TakesNext};
 ghost use Rattle.arti_tree.specs.Slots.{row_with};
 ghost use Rattle.arti_tree.specs.Searched.{key};
 ghost use Rattle.arti_tree.specs.Adds.{is_end, is_missing, is_file_at, keys_added, put_fault, Adds};
 ghost use Rattle.arti_rows.specs.Key.{folders_above, whole_of};
 ghost use Rattle.arti_rows.specs.Names.{key_fault};
-ghost use Rattle.arti_tree.specs.Chains.{CanAdd, Pushes};
+ghost use Rattle.arti_tree.specs.Chains.{CanAdd, Pushes, PushesNext};
 ghost use Rattle.arti_tree.specs.Renames.{AreWithin, is_within, key_for, moved_row, moved_whole, renamed, rename_fault, without_within, StayKeys};
 
 use crate::TreeFault;
@@ -246,6 +246,7 @@ impl Tree {
         requires folder { HasFolder self.old key }
         requires few { length self.old + 1 < 2 ^ 32 }
         ensures fresh { IfOk result (λ id. row_of self.old id ≡ None) }
+        ensures next { IfOk result (λ id. IsNext (ids self.old) id) }
         ensures added { IfOk result (λ id. self.new ≡ with_row (record { id = id; key = key; is_file = is_file }) self.old) }
         ensures unchanged { OnErr result (self.new ≡ self.old) }
     {
@@ -399,6 +400,7 @@ impl Tree {
         requires few { length self.old + length keys.items < 2 ^ 32 }
         requires room { vec_len ids.old + length keys.items ≤ vec_capacity ids.old }
         ensures added { OnOk result (Pushes self.old keys.items is_file ids.old.items ids.new.items self.new) }
+        ensures next { OnOk result (PushesNext self.old ids.old.items ids.new.items) }
         ensures unchanged { OnErr result (self.new ≡ self.old) }
     {
         if keys.is_empty() {
@@ -426,6 +428,7 @@ impl Tree {
     ) -> Result<Vec<u32>, TreeFault>
         ensures ok { OnOk result (put_fault self.old key limit ≡ None) }
         ensures added { IfOk result (λ ids. Adds self.old (keys_added self.old key) file ids.items self.new) }
+        ensures next { IfOk result (λ given. TakesNext (ids self.old) given.items) }
         ensures fault { IfErr result (λ e. e ≢ TreeFault.Memory → put_fault self.old key limit ≡ Some e) }
         ensures unchanged { OnErr result (self.new ≡ self.old) }
     {
@@ -551,9 +554,8 @@ impl Tree {
     {
         from.rules();
         to.rules();
-        let mut ids = Vec::new(alloc);
-        let mut keys = Vec::new(alloc);
-        self.find_within(alloc, id, from, to, &mut ids, &mut keys)?;
+        let ids = self.ids_within(alloc, id, from)?;
+        let keys = self.new_keys(alloc, from, to, &ids)?;
         let folders = (self.folder(from), self.folder(to));
         // Before anything changes, so that nothing behind the shift can fail.
         self.order.make_room(alloc, keys.len())?;
@@ -604,71 +606,32 @@ impl Tree {
         Ok(())
     }
 
-    // The ids of the rows within the key of an id, and the keys that they get where it becomes another: its own first, and
-    // behind it what lies in each.
-    fn find_within(
+    // The keys that rows within one get where that becomes another.
+    fn new_keys(
         &self,
         alloc: Global,
-        id: u32,
         from: &ItemKey,
         to: &ItemKey,
-        found: &mut Vec<u32>,
-        keys: &mut Vec<ItemKey>,
-    ) -> Result<(), AllocError>
-        requires no_ids { found.old.items ≡ [] }
-        requires no_keys { keys.old.items ≡ [] }
-        requires live { option_map (λ r. r.key) (row_of self.now id) ≡ Some from.now }
+        ids: &[u32],
+    ) -> Result<Vec<ItemKey>, AllocError>
+        requires within { AreWithin self.now from.now ids.now }
         requires keys { StayKeys self.now from.now to.now }
-        ensures ids { OnOk result (AreWithin self.now from.now found.new.items) }
-        ensures keys { OnOk result (keys.new.items ≡ map (key_for self.now from.now to.now) found.new.items) }
+        ensures { IfOk result (λ v. v.items ≡ map (key_for self.now from.now to.now) ids.now) }
     {
         self.rules();
         from.rules();
-        to.rules();
         let to_whole = to.whole(alloc)?;
-        found.push(id)?;
-        keys.push(to.clone()?)?;
-        let mut next = 0usize;
-        'folders: while next < found.len() {
-            let Some(folder) = self.key(found[next]) else {
+        let mut keys = Vec::with_capacity(alloc, ids.len())?;
+        for id in ids {
+            let Some(item) = self.key(*id) else {
                 unreachable!();
             };
-            self.push_inside(alloc, folder, from, to, to_whole.as_str(), found, keys)?;
-            next += 1;
-        }
-        Ok(())
-    }
-
-    // What lies in a folder is found, with the keys that it gets.
-    fn push_inside(
-        &self,
-        alloc: Global,
-        folder: &ItemKey,
-        from: &ItemKey,
-        to: &ItemKey,
-        to_whole: &str,
-        found: &mut Vec<u32>,
-        keys: &mut Vec<ItemKey>,
-    ) -> Result<(), AllocError>
-        requires within { is_within from.now folder.now ≡ true }
-        requires to_whole { to_whole.now ≡ whole_of to.now }
-        requires keys { StayKeys self.now from.now to.now }
-        ensures ids { OnOk result (found.new.items ≡ found.old.items ++ ids (filter (lies_in folder.now) self.now)) }
-        ensures keys { OnOk result (keys.new.items ≡ keys.old.items ++ map (key_for self.now from.now to.now) (ids (filter (lies_in folder.now) self.now))) }
-    {
-        self.rules();
-        from.rules();
-        for child in self.children(folder) {
-            let Some(item) = self.key(*child) else {
+            let Some(key) = moved_key(alloc, item, from, to, to_whole.as_str())? else {
                 unreachable!();
             };
-            let Some(key) = moved_key(alloc, item, from, to, to_whole)? else {
-                unreachable!();
-            };
-            found.push(*child)?;
             keys.push(key)?;
         }
-        Ok(())
+        Ok(keys)
     }
 
     // How many of the folders above a key are there, or where a file stands among them.

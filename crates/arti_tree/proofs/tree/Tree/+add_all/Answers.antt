@@ -4,8 +4,8 @@ use Rattle.std.specs.List.{remove, find}
 use Rattle.arti_rows.specs.Key.{Key}
 use Rattle.arti_tree.specs.Rows.{Row, row_of, lies_in, with_row, without_row}
 use Rattle.arti_tree.specs.Adds.{is_end}
-use Rattle.arti_tree.specs.Chains.{CanAdd, Pushes}
-use Rattle.arti_tree.proofs.Chaining.{first_rest, row_undone, pushes_more, can_next, live_new, empty_new, new_long}
+use Rattle.arti_tree.specs.Chains.{CanAdd, Pushes, PushesNext}
+use Rattle.arti_tree.proofs.Chaining.{first_rest, row_undone, pushes_more, can_next, live_new, empty_new, new_long, next_more}
 use Rattle.arti_tree.proofs.tree.Tree.+add_all.Goals as goal
 
 whole_of_keys : (items rest : List Key) (k : Key) → 0 < length items → k ≡ get_or items 0 k → rest ≡ remove items 0 → items ≡ k ∷ rest
@@ -91,3 +91,14 @@ returns-clause-added t c =
     (pushes_more c.args.self.now c.add_all.new.self k rest c.args.is_file c.args.ids.now.items c.add_all.new.ids.items c.in_ok-id.id c.in_ok-id.ensures.fresh
     (subst (λ (l : List Row). Pushes l rest c.args.is_file (c.args.ids.now.items ++ c.in_ok-id.id ∷ []) c.add_all.new.ids.items c.add_all.new.self) new
     (subst (λ (l : List ℕ). Pushes c.add.new.self rest c.args.is_file l c.add_all.new.ids.items c.add_all.new.self) c.push_ready.ensures.items pushed)))
+
+pub returns-clause-next : goal.returns-clause-next
+returns-clause-next t c =
+    let k : Key = c.remove-key.result in
+    let rest : List Key = c.remove-key.new.self.items in
+    let r : Row = record { id = c.in_ok-id.id; key = k; is_file = c.args.is_file && is_end rest } in
+    let new = added_as c.args.self.now c.add.new.self c.in_ok-id.id k rest c.deref.result.now c.args.is_file c.is_last_file-as_file.result c.in_ok-id.ensures.added c.is_last_file-as_file.ensures c.deref.ensures.value in
+    let pushed : PushesNext c.add.new.self c.push_ready.new.ids.items c.add_all.new.ids.items = c.in_default.ensures.next in
+    next_more c.args.self.now r c.args.ids.now.items c.add_all.new.ids.items c.in_ok-id.ensures.next
+    (subst (λ (l : List Row). PushesNext l (c.args.ids.now.items ++ c.in_ok-id.id ∷ []) c.add_all.new.ids.items) new
+    (subst (λ (l : List ℕ). PushesNext c.add.new.self l c.add_all.new.ids.items) c.push_ready.ensures.items pushed))

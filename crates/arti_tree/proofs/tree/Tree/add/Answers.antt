@@ -4,8 +4,8 @@ use Rattle.std.specs.List.{insert}
 use Rattle.std.specs.Cmp.Lexicographic.{pointwise}
 use Rattle.arti_rows.specs.Key.{Key, key_cmp}
 use Rattle.arti_tree.specs.declared.slot.Slot.{Slot}
-use Rattle.arti_tree.specs.Ids.{AscendFrom, Lacks, with_id}
-use Rattle.arti_tree.specs.Rows.{Row, row_of, row_at, with_row, HasFolder, folder_id}
+use Rattle.arti_tree.specs.Ids.{AscendFrom, IsNext, Lacks, with_id}
+use Rattle.arti_tree.specs.Rows.{Row, ids, row_of, row_at, with_row, HasFolder, folder_id}
 use Rattle.arti_tree.specs.Slots.{at, live, key_at, row_with, is_it}
 use Rattle.arti_tree.specs.Kept.{Ordered}
 use Rattle.arti_tree.specs.Repos.{list_of}
@@ -14,7 +14,7 @@ use Rattle.arti_tree.specs.Searched.{key, AllLive, RisingAt}
 use Rattle.arti_tree.proofs.Along.{to_both, from_both}
 use Rattle.arti_tree.proofs.Looks.{all_live, rising_there, found_there, order_long}
 use Rattle.arti_tree.proofs.Growing.{Fresh, kept_more}
-use Rattle.arti_tree.proofs.Adding.{all_ascend, children_ascend, repo_ascends, free_row, free_slot, children_lack, repo_lacks, id_within, kept_same, order_with}
+use Rattle.arti_tree.proofs.Adding.{all_ascend, children_ascend, repo_ascends, free_row, free_slot, children_lack, repo_lacks, id_within, next_row, kept_same, order_with}
 use Rattle.arti_tree.proofs.tree.Tree.add.Goals as goal
 
 pub place_of-requires-clause-live : goal.place_of-requires-clause-live
@@ -76,9 +76,10 @@ add_ready-requires-clause-ascend c =
 pub fill-requires-clause-within : goal.fill-requires-clause-within
 fill-requires-clause-within c =
     let t = c.self.inside in
-    let free = subst (λ (l : List ℕ). (c.free_id-id.result ≤ length l) × ((c.free_id-id.result ≡ 0) ⊎ (get_or l (c.free_id-id.result - 1) 0 ≡ c.free_id-id.result - 1))) c.deref-2.ensures.value (c.free_id-id.ensures.within, c.free_id-id.ensures.next) in
-    let within = id_within t.slots.items t.all.items t.order.items (list_at t.children) (list_of t.repos) c.self.invariant c.free_id-id.result free.0 free.1 in
-    subst (λ (l : List (Option Slot)). c.free_id-id.result ≤ length l) (sym c.make_room.ensures.slots) within
+    let id : ℕ = c.free_id-id.result in
+    let free = subst (λ (l : List ℕ). (id ≡ 0) ⊎ ((0 < length l) × (id ≤ get_or l (length l - 1) 0 + 1))) c.deref-2.ensures.value c.free_id-id.ensures.within in
+    let within = id_within t.slots.items t.all.items t.order.items (list_at t.children) (list_of t.repos) c.self.invariant id free in
+    subst (λ (l : List (Option Slot)). id ≤ length l) (sym c.make_room.ensures.slots) within
 
 pub fill-requires-clause-empty : goal.fill-requires-clause-empty
 fill-requires-clause-empty c =
@@ -123,6 +124,13 @@ returns-clause-fresh c =
     let t = c.self.inside in
     let lacks = subst (λ (l : List ℕ). Lacks l c.free_id-id.result) c.deref-2.ensures.value c.free_id-id.ensures.absent in
     subst (λ (l : List Row). row_of l c.free_id-id.result ≡ None) c.self.view_is (free_row t.slots.items t.all.items t.order.items (list_at t.children) (list_of t.repos) c.self.invariant c.free_id-id.result lacks)
+
+pub returns-clause-next : goal.returns-clause-next
+returns-clause-next c =
+    let t = c.self.inside in
+    let id : ℕ = c.free_id-id.result in
+    let next = subst (λ (l : List ℕ). IsNext l id) c.deref-2.ensures.value c.free_id-id.ensures.next in
+    subst (λ (l : List Row). IsNext (ids l) id) c.self.view_is (next_row t.slots.items t.all.items t.order.items (list_at t.children) (list_of t.repos) c.self.invariant id next)
 
 pub invariant_of-self-in_err-enter_both : goal.invariant_of-self-in_err-enter_both
 invariant_of-self-in_err-enter_both c =
