@@ -10,3 +10,4 @@ pub mod Gone
 pub mod Each
 pub mod PropsOf
 pub mod Counting
+pub mod Contained

@@ -5,3 +5,4 @@ pub mod Formed
 pub mod LiveLaws
 pub mod PropsEdits
 pub mod Built
+pub mod Contents

@@ -2,18 +2,23 @@
 ghost use Rattle.std.specs.Prelude.{◌≡◌, ◌+◌, [], map, length, None, IfOk, OnOk, option_map};
 ghost use Rattle.std.specs.Option.{option_copied};
 ghost use Rattle.arti_model.specs.Store.{find_item, item_of_row};
+ghost use Rattle.arti_model.specs.Deploys.{file_with};
 ghost use Rattle.arti_model.specs.Edits.{edited_by};
 ghost use Rattle.arti_catalog.specs.Built.{edits_refusal};
+ghost use Rattle.arti_catalog.specs.Contents.{digests_of};
 ghost use Rattle.arti_catalog.specs.Held.{AreLive, items_in, itself, row_at_id};
 ghost use Rattle.arti_catalog.specs.Judged.{Applies, Judges};
 ghost use Rattle.arti_catalog.specs.Formed.{WellFormed};
 
 use crate::changes::{do_all, judge_and_do};
+use crate::contents::file_with;
 use crate::judging::judge;
 use crate::parts::Parts;
 use crate::{ApplyFault, Lent};
 use arti_ground::Steps;
-use arti_rows::{Change, Edit, ItemKey, ItemRow, Limits, Moment, Refusal, Text};
+use arti_rows::{
+    Change, Edit, FileRef, ItemKey, ItemRow, Limits, Moment, Refusal, SomeDigests, Text,
+};
 use arti_tree::Tree;
 use std::alloc::{AllocError, Global};
 use std::marker::Model;
@@ -62,6 +67,13 @@ impl Catalog {
         ensures { option_map item_of_row (option_copied result) ≡ find_item (items_in self.now) key.now }
     {
         self.parts.find(key)
+    }
+
+    /// The content of the first file that has the digests, in the default order.
+    pub fn file_with(&self, wanted: &SomeDigests) -> Option<&FileRef>
+        ensures { option_copied result ≡ file_with digests_of wanted.now (items_in self.now) }
+    {
+        file_with(&self.parts, wanted)
     }
 
     /// The items' keys under their ids.

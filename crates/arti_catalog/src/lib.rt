@@ -3,6 +3,7 @@
 
 mod catalog;
 mod changes;
+mod contents;
 mod edits;
 mod fault;
 mod judging;
