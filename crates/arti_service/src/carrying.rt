@@ -169,7 +169,7 @@ fn commit_and_tell<G: Ground>(
     ensures acts { G.tells → ActsFor store.old.limits line
         (accept store.old.limits (shows (G.state ground.old) store.old) (file_at (G.state ground.old)) change (head.now ++ rest_at (G.state ground.old) (option_copied file.entry)))
         result (G.state ground.old) (G.state ground.new) store.old store.new }
-    ensures ready { OnOk result (IsReady store.old.limits store.new) }
+    ensures ready { result ≢ Err Stop.Disk → result ≢ Err Stop.Memory → IsReady store.old.limits store.new }
     ensures tell { CountsTold line (G.tell_faults ground.old) (G.tell_faults ground.new) (IsErrOf result Stop.Tell) }
     ensures disk { Counts (G.disk_faults ground.old) (G.disk_faults ground.new) (IsErrOf result Stop.Disk) }
 {
@@ -198,7 +198,7 @@ pub fn carry_out<G: Ground>(
     ensures acts { G.tells → ActsFor store.old.limits line
         (done_at (G.state ground.old) store.old.limits (shows (G.state ground.old) store.old) act)
         result (G.state ground.old) (G.state ground.new) store.old store.new }
-    ensures ready { OnOk result (IsReady store.old.limits store.new) }
+    ensures ready { result ≢ Err Stop.Disk → result ≢ Err Stop.Memory → IsReady store.old.limits store.new }
     ensures no_memory { TellsOnly act → result ≢ Err Stop.Memory }
     ensures tell { CountsTold line (G.tell_faults ground.old) (G.tell_faults ground.new) (IsErrOf result Stop.Tell) }
     ensures disk { Counts (G.disk_faults ground.old) (G.disk_faults ground.new) (IsErrOf result Stop.Disk) }
@@ -246,7 +246,7 @@ pub fn perform<G: Ground>(
     ensures acts { G.tells → ActsFor store.old.limits line
         (perform store.old.limits (shows (G.state ground.old) store.old) alone (decision_at (G.state ground.old) decision))
         result (G.state ground.old) (G.state ground.new) store.old store.new }
-    ensures ready { OnOk result (IsReady store.old.limits store.new) }
+    ensures ready { result ≢ Err Stop.Disk → result ≢ Err Stop.Memory → IsReady store.old.limits store.new }
     ensures tell { CountsTold line (G.tell_faults ground.old) (G.tell_faults ground.new) (IsErrOf result Stop.Tell) }
     ensures disk { Counts (G.disk_faults ground.old) (G.disk_faults ground.new) (IsErrOf result Stop.Disk) }
 {

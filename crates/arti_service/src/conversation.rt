@@ -1,5 +1,5 @@
 // A request of a stream is read whole and answered.
-ghost use Rattle.std.specs.Prelude.{◌≡◌, ◌≢◌, ◌⊎◌, ◌++◌, ◌<◌, ◌≤◌, ℕ, List, length, IfOk, IfErr, IfSome, OnOk, IsErrOf, Err};
+ghost use Rattle.std.specs.Prelude.{◌≡◌, ◌≢◌, ◌++◌, ◌<◌, ◌≤◌, ℕ, List, length, IfOk, IfErr, IfSome, OnOk, IsErrOf, Err};
 ghost use Rattle.arti_ground.specs.State.{LeavesDisk, Passes, Counts};
 ghost use Rattle.arti_store.specs.Store.{HoldsStore, shows};
 ghost use Rattle.arti_service.specs.Stocks.{IsReady};
@@ -9,10 +9,10 @@ ghost use Rattle.arti_wire.specs.Framing.{IsInBody, body_left, HasSourceCause};
 ghost use Rattle.arti_wire.specs.declared.wire.Phase.TheVariants.{Between};
 ghost use Rattle.arti_model.specs.Run.{error_reply, Recovers};
 ghost use Rattle.arti_service.specs.Bodies.{IsBodyOf, LeavesPhase};
+ghost use Rattle.arti_model.specs.Requests as model;
 ghost use Rattle.arti_model.specs.Requests.{Begins, Head};
 ghost use Rattle.arti_service.specs.Talk.{AtStreamEnd, Answers, TakesTurn, AnswersOne, CutsShort};
 ghost use Rattle.arti_service.specs.Cuts.{StopsSo, Stops, StopsInOne, StopsTelling, StopsBad, EndsFor};
-ghost use Rattle.arti_service.specs.Endings.{IsFault, IsCutOrFault};
 
 use crate::answering::{Stop, answer};
 use crate::replies;
@@ -100,7 +100,8 @@ fn ending_of(stop: Stop) -> Ending
     ensures not_tell { result ≢ Ending.Tell → stop ≢ Stop.Tell }
     ensures disk { result ≡ Ending.Disk → stop ≡ Stop.Disk }
     ensures not_disk { result ≢ Ending.Disk → stop ≢ Stop.Disk }
-    ensures fault { IsFault result }
+    ensures not_memory { result ≢ Ending.Memory → stop ≢ Stop.Memory }
+    ensures fault { AtStreamEnd result (λ e. ⊥) }
     ensures no_source { result ≢ Ending.Source }
     ensures stop { EndsFor stop result }
 {
@@ -119,28 +120,25 @@ fn answer_next<G: Ground, S: Source, C: Clock>(
     source: &mut S,
     clock: &mut C,
     line: u32,
-    limits: &Limits,
     wire: &mut Wire,
     buf: &mut [u8],
     request: &Request,
 ) -> Result<(), Ending>
     requires body { IsInBody wire.old.phase }
     requires room { 0 < length buf.old }
-    requires within { body_left wire.old.phase ≤ limits.now.content }
-    requires ready { IsReady limits.now store.old }
+    requires within { body_left wire.old.phase ≤ store.old.limits.content }
+    requires ready { IsReady store.old.limits store.old }
     requires holds { G.tells → HoldsStore (G.state ground.old) store.old }
-    ensures one { G.tells → S.tells → C.tells → OnOk result (AnswersOne limits.now (C.moments clock.old) (C.moments clock.new) (shows (G.state ground.old) store.old) (shows (G.state ground.new) store.new) request.now (body_left wire.old.phase)
+    ensures one { G.tells → S.tells → C.tells → OnOk result (AnswersOne store.old.limits (C.moments clock.old) (C.moments clock.new) (shows (G.state ground.old) store.old) (shows (G.state ground.new) store.new) request.now (body_left wire.old.phase)
         (wire.old.ahead ++ S.left source.old) (wire.new.ahead ++ S.left source.new) ((G.state ground.old).told line) ((G.state ground.new).told line)) }
-    ensures cut { G.tells → S.tells → IsErrOf result Ending.Cut → CutsShort (body_left wire.old.phase) (wire.old.ahead ++ S.left source.old) (shows (G.state ground.old) store.old) (shows (G.state ground.new) store.new) ((G.state ground.old).told line) ((G.state ground.new).told line) }
-    ensures stops { G.tells → S.tells → C.tells → IfErr result (λ ending. StopsInOne ending limits.now (C.moments clock.old) (shows (G.state ground.old) store.old) request.now (body_left wire.old.phase)
-        (wire.old.ahead ++ S.left source.old) ((G.state ground.old).told line) ((G.state ground.new).told line)) }
-    ensures moments { G.tells → S.tells → C.tells → Passes (G.state ground.old) (G.state ground.new) (AtMoment limits.now line (G.state ground.old).told
-        (DuringOne limits.now (C.moments clock.old) (shows (G.state ground.old) store.old) request.now (body_left wire.old.phase) (wire.old.ahead ++ S.left source.old))) }
-    ensures ready { OnOk result (IsReady limits.now store.new) }
-    ensures holds { G.tells → OnOk result (HoldsStore (G.state ground.new) store.new) }
-    ensures cut_ready { IsErrOf result Ending.Cut → (store.new ≡ store.old) × (ground.new ≡ ground.old) }
+    ensures cut { G.tells → S.tells → IfErr result (λ ending. AtStreamEnd ending (λ e. (e ≡ model.Cut) × CutsShort (body_left wire.old.phase) (wire.old.ahead ++ S.left source.old) (shows (G.state ground.old) store.old) (shows (G.state ground.new) store.new) ((G.state ground.old).told line) ((G.state ground.new).told line))) }
+    ensures stops { G.tells → S.tells → C.tells → IfErr result (λ ending. StopsInOne ending store.old.limits (C.moments clock.old) (shows (G.state ground.old) store.old) request.now (body_left wire.old.phase)
+        (wire.old.ahead ++ S.left source.old) ((G.state ground.old).told line) ((G.state ground.new).told line) (shows (G.state ground.new) store.new)) }
+    ensures moments { G.tells → S.tells → C.tells → Passes (G.state ground.old) (G.state ground.new) (AtMoment store.old.limits line (G.state ground.old).told
+        (DuringOne store.old.limits (C.moments clock.old) (shows (G.state ground.old) store.old) request.now (body_left wire.old.phase) (wire.old.ahead ++ S.left source.old))) }
+    ensures ready { result ≢ Err Ending.Disk → result ≢ Err Ending.Memory → IsReady store.old.limits store.new }
+    ensures holds { G.tells → result ≢ Err Ending.Disk → result ≢ Err Ending.Memory → HoldsStore (G.state ground.new) store.new }
     ensures phase { OnOk result (wire.new.phase ≡ Between) }
-    ensures ends { IfErr result IsCutOrFault }
     ensures tell { CountsTold line (G.tell_faults ground.old) (G.tell_faults ground.new) (IsErrOf result Ending.Tell) }
     ensures disk { Counts (G.disk_faults ground.old) (G.disk_faults ground.new) (IsErrOf result Ending.Disk) }
     ensures source { Counts (S.faults source.old) (S.faults source.new) (IsErrOf result Ending.Source) }
@@ -152,7 +150,7 @@ fn answer_next<G: Ground, S: Source, C: Clock>(
         Err(WireFault::Memory) => return Err(Ending::Memory),
     };
     let moment = clock.now();
-    match answer(alloc, store, ground, line, limits, request, &body, moment) {
+    match answer(alloc, store, ground, line, request, &body, moment) {
         Ok(()) => Ok(()),
         Err(stop) => Err(ending_of(stop)),
     }
@@ -166,7 +164,6 @@ fn turn_on<G: Ground, S: Source, C: Clock>(
     source: &mut S,
     clock: &mut C,
     line: u32,
-    limits: &Limits,
     wire: &mut Wire,
     buf: &mut [u8],
     most: u32,
@@ -174,23 +171,21 @@ fn turn_on<G: Ground, S: Source, C: Clock>(
 ) -> Result<(), Ending>
     requires body { IsInBody wire.old.phase }
     requires room { 0 < length buf.old }
-    requires within { body_left wire.old.phase ≤ limits.now.content }
+    requires within { body_left wire.old.phase ≤ store.old.limits.content }
     requires some { 0 < most }
-    requires ready { IsReady limits.now store.old }
+    requires ready { IsReady store.old.limits store.old }
     requires holds { G.tells → HoldsStore (G.state ground.old) store.old }
-    ensures turns { G.tells → S.tells → C.tells → (input : List ℕ) → Begins limits.now.content input (Head request.now (body_left wire.old.phase) (wire.old.ahead ++ S.left source.old))
-        → OnOk result (TakesTurn limits.now most (C.moments clock.old) (C.moments clock.new) (shows (G.state ground.old) store.old) (shows (G.state ground.new) store.new) input (wire.new.ahead ++ S.left source.new) ((G.state ground.old).told line) ((G.state ground.new).told line)) }
-    ensures ends { G.tells → S.tells → C.tells → (input : List ℕ) → Begins limits.now.content input (Head request.now (body_left wire.old.phase) (wire.old.ahead ++ S.left source.old))
-        → IfErr result (λ ending. AtStreamEnd ending (Answers limits.now most (C.moments clock.old) (shows (G.state ground.old) store.old) input ((G.state ground.old).told line) ((G.state ground.new).told line) (shows (G.state ground.new) store.new))) }
-    ensures stops { G.tells → S.tells → C.tells → (input : List ℕ) → Begins limits.now.content input (Head request.now (body_left wire.old.phase) (wire.old.ahead ++ S.left source.old))
-        → IfErr result (λ ending. StopsSo ending limits.now (record { most = most; moments = C.moments clock.old; stock = shows (G.state ground.old) store.old; input = input }) ((G.state ground.old).told line) ((G.state ground.new).told line)) }
-    ensures moments { G.tells → S.tells → C.tells → (input : List ℕ) → Begins limits.now.content input (Head request.now (body_left wire.old.phase) (wire.old.ahead ++ S.left source.old))
-        → Passes (G.state ground.old) (G.state ground.new) (AtMoment limits.now line (G.state ground.old).told
-        (Recovers limits.now most (C.moments clock.old) (shows (G.state ground.old) store.old) input)) }
-    ensures ready { OnOk result (IsReady limits.now store.new) }
-    ensures holds { G.tells → OnOk result (HoldsStore (G.state ground.new) store.new) }
-    ensures still { G.tells → IfErr result (λ ending. AtStreamEnd ending (λ e. HoldsStore (G.state ground.new) store.new)) }
-    ensures ended { IfErr result (λ ending. AtStreamEnd ending (λ e. IsReady limits.now store.new)) }
+    ensures turns { G.tells → S.tells → C.tells → (input : List ℕ) → Begins store.old.limits.content input (Head request.now (body_left wire.old.phase) (wire.old.ahead ++ S.left source.old))
+        → OnOk result (TakesTurn store.old.limits most (C.moments clock.old) (C.moments clock.new) (shows (G.state ground.old) store.old) (shows (G.state ground.new) store.new) input (wire.new.ahead ++ S.left source.new) ((G.state ground.old).told line) ((G.state ground.new).told line)) }
+    ensures ends { G.tells → S.tells → C.tells → (input : List ℕ) → Begins store.old.limits.content input (Head request.now (body_left wire.old.phase) (wire.old.ahead ++ S.left source.old))
+        → IfErr result (λ ending. AtStreamEnd ending (Answers store.old.limits most (C.moments clock.old) (shows (G.state ground.old) store.old) input ((G.state ground.old).told line) ((G.state ground.new).told line) (shows (G.state ground.new) store.new))) }
+    ensures stops { G.tells → S.tells → C.tells → (input : List ℕ) → Begins store.old.limits.content input (Head request.now (body_left wire.old.phase) (wire.old.ahead ++ S.left source.old))
+        → IfErr result (λ ending. StopsSo ending store.old.limits (record { most = most; moments = C.moments clock.old; stock = shows (G.state ground.old) store.old; input = input }) ((G.state ground.old).told line) ((G.state ground.new).told line) (shows (G.state ground.new) store.new)) }
+    ensures moments { G.tells → S.tells → C.tells → (input : List ℕ) → Begins store.old.limits.content input (Head request.now (body_left wire.old.phase) (wire.old.ahead ++ S.left source.old))
+        → Passes (G.state ground.old) (G.state ground.new) (AtMoment store.old.limits line (G.state ground.old).told
+        (Recovers store.old.limits most (C.moments clock.old) (shows (G.state ground.old) store.old) input)) }
+    ensures ready { result ≢ Err Ending.Disk → result ≢ Err Ending.Memory → IsReady store.old.limits store.new }
+    ensures holds { G.tells → result ≢ Err Ending.Disk → result ≢ Err Ending.Memory → HoldsStore (G.state ground.new) store.new }
     ensures phase { OnOk result (wire.new.phase ≡ Between) }
     ensures tell { CountsTold line (G.tell_faults ground.old) (G.tell_faults ground.new) (IsErrOf result Ending.Tell) }
     ensures disk { Counts (G.disk_faults ground.old) (G.disk_faults ground.new) (IsErrOf result Ending.Disk) }
@@ -198,7 +193,7 @@ fn turn_on<G: Ground, S: Source, C: Clock>(
 {
     let last = request.last;
     match answer_next(
-        alloc, store, ground, source, clock, line, limits, wire, buf, request,
+        alloc, store, ground, source, clock, line, wire, buf, request,
     ) {
         Err(ending) => Err(ending),
         Ok(()) => {
@@ -212,8 +207,7 @@ fn turn_on<G: Ground, S: Source, C: Clock>(
 
 // Tells that the bytes are no request, and ends.
 fn end_bad<G: Ground>(alloc: Global, ground: &mut G, line: u32, why: Why) -> Ending
-    ensures bad { result ≡ Ending.Bad why ⊎ IsFault result }
-    ensures told { G.tells → result ≡ Ending.Bad why → (G.state ground.new).told line ≡ (G.state ground.old).told line ++ error_reply why }
+    ensures told { G.tells → AtStreamEnd result (λ e. (e ≡ model.Bad why) × ((G.state ground.new).told line ≡ (G.state ground.old).told line ++ error_reply why)) }
     ensures stops { G.tells → StopsBad result why ((G.state ground.old).told line) ((G.state ground.new).told line) }
     ensures time { G.tells → Passes (G.state ground.old) (G.state ground.new) (Telling (G.state ground.old) line (error_reply why)) }
     ensures tell { CountsTold line (G.tell_faults ground.old) (G.tell_faults ground.new) (result ≡ Ending.Tell) }
@@ -236,26 +230,23 @@ fn turn<G: Ground, S: Source, C: Clock>(
     source: &mut S,
     clock: &mut C,
     line: u32,
-    limits: &Limits,
     wire: &mut Wire,
     buf: &mut [u8],
     most: u32,
 ) -> Result<(), Ending>
     requires between { wire.old.phase ≡ Between }
     requires room { 0 < length buf.old }
-    requires ready { IsReady limits.now store.old }
+    requires ready { IsReady store.old.limits store.old }
     requires holds { G.tells → HoldsStore (G.state ground.old) store.old }
-    ensures turns { G.tells → S.tells → C.tells → OnOk result (TakesTurn limits.now most (C.moments clock.old) (C.moments clock.new) (shows (G.state ground.old) store.old) (shows (G.state ground.new) store.new)
+    ensures turns { G.tells → S.tells → C.tells → OnOk result (TakesTurn store.old.limits most (C.moments clock.old) (C.moments clock.new) (shows (G.state ground.old) store.old) (shows (G.state ground.new) store.new)
         (wire.old.ahead ++ S.left source.old) (wire.new.ahead ++ S.left source.new) ((G.state ground.old).told line) ((G.state ground.new).told line)) }
-    ensures ends { G.tells → S.tells → C.tells → IfErr result (λ ending. AtStreamEnd ending (Answers limits.now most (C.moments clock.old) (shows (G.state ground.old) store.old) (wire.old.ahead ++ S.left source.old)
+    ensures ends { G.tells → S.tells → C.tells → IfErr result (λ ending. AtStreamEnd ending (Answers store.old.limits most (C.moments clock.old) (shows (G.state ground.old) store.old) (wire.old.ahead ++ S.left source.old)
         ((G.state ground.old).told line) ((G.state ground.new).told line) (shows (G.state ground.new) store.new))) }
-    ensures stops { G.tells → S.tells → C.tells → IfErr result (λ ending. StopsSo ending limits.now (record { most = most; moments = C.moments clock.old; stock = shows (G.state ground.old) store.old; input = wire.old.ahead ++ S.left source.old }) ((G.state ground.old).told line) ((G.state ground.new).told line)) }
-    ensures moments { G.tells → S.tells → C.tells → Passes (G.state ground.old) (G.state ground.new) (AtMoment limits.now line (G.state ground.old).told
-        (Recovers limits.now most (C.moments clock.old) (shows (G.state ground.old) store.old) (wire.old.ahead ++ S.left source.old))) }
-    ensures ready { OnOk result (IsReady limits.now store.new) }
-    ensures holds { G.tells → OnOk result (HoldsStore (G.state ground.new) store.new) }
-    ensures still { G.tells → IfErr result (λ ending. AtStreamEnd ending (λ e. HoldsStore (G.state ground.new) store.new)) }
-    ensures ended { IfErr result (λ ending. AtStreamEnd ending (λ e. IsReady limits.now store.new)) }
+    ensures stops { G.tells → S.tells → C.tells → IfErr result (λ ending. StopsSo ending store.old.limits (record { most = most; moments = C.moments clock.old; stock = shows (G.state ground.old) store.old; input = wire.old.ahead ++ S.left source.old }) ((G.state ground.old).told line) ((G.state ground.new).told line) (shows (G.state ground.new) store.new)) }
+    ensures moments { G.tells → S.tells → C.tells → Passes (G.state ground.old) (G.state ground.new) (AtMoment store.old.limits line (G.state ground.old).told
+        (Recovers store.old.limits most (C.moments clock.old) (shows (G.state ground.old) store.old) (wire.old.ahead ++ S.left source.old))) }
+    ensures ready { result ≢ Err Ending.Disk → result ≢ Err Ending.Memory → IsReady store.old.limits store.new }
+    ensures holds { G.tells → result ≢ Err Ending.Disk → result ≢ Err Ending.Memory → HoldsStore (G.state ground.new) store.new }
     ensures some { OnOk result (0 < most) }
     ensures phase { OnOk result (wire.new.phase ≡ Between) }
     ensures tell { CountsTold line (G.tell_faults ground.old) (G.tell_faults ground.new) (IsErrOf result Ending.Tell) }
@@ -264,7 +255,7 @@ fn turn<G: Ground, S: Source, C: Clock>(
 {
     // For the proof alone: a head that is found is the one thing that the bytes begin with.
     bytes_begin_with_one_thing();
-    match wire.next_head(alloc, source, limits) {
+    match wire.next_head(alloc, source, store.limits()) {
         Err(WireFault::Source) => Err(Ending::Source),
         Err(WireFault::Memory) => Err(Ending::Memory),
         Ok(NextHead::End) => Err(Ending::End),
@@ -285,7 +276,7 @@ fn turn<G: Ground, S: Source, C: Clock>(
                 return Err(Ending::TooMany);
             }
             turn_on(
-                alloc, store, ground, source, clock, line, limits, wire, buf, most, &request,
+                alloc, store, ground, source, clock, line, wire, buf, most, &request,
             )
         }
     }
@@ -308,11 +299,11 @@ pub fn converse<G: Ground, S: Source, U: Upstream, C: Clock, L: Ledger>(
     ensures answers { G.tells → S.tells → C.tells → AtStreamEnd result (Answers limits.now limits.now.requests (C.moments clock.old) (shows (G.state ground.old) store.old) (S.left source.old)
         ((G.state ground.old).told line) ((G.state ground.new).told line) (shows (G.state ground.new) store.new)) }
     ensures stops { G.tells → S.tells → C.tells → Stops result limits.now (record { most = limits.now.requests; moments = C.moments clock.old; stock = shows (G.state ground.old) store.old; input = S.left source.old })
-        ((G.state ground.old).told line) ((G.state ground.new).told line) }
+        ((G.state ground.old).told line) ((G.state ground.new).told line) (shows (G.state ground.new) store.new) }
     ensures moments { G.tells → S.tells → C.tells → Passes (G.state ground.old) (G.state ground.new) (AtMoment limits.now line (G.state ground.old).told
         (Recovers limits.now limits.now.requests (C.moments clock.old) (shows (G.state ground.old) store.old) (S.left source.old))) }
-    ensures still { G.tells → AtStreamEnd result (λ e. HoldsStore (G.state ground.new) store.new) }
-    ensures ready { AtStreamEnd result (λ e. IsReady limits.now store.new) }
+    ensures still { G.tells → result ≢ Ending.Disk → result ≢ Ending.Memory → HoldsStore (G.state ground.new) store.new }
+    ensures ready { result ≢ Ending.Disk → result ≢ Ending.Memory → IsReady limits.now store.new }
     ensures tell { CountsTold line (G.tell_faults ground.old) (G.tell_faults ground.new) (result ≡ Ending.Tell) }
     ensures disk { Counts (G.disk_faults ground.old) (G.disk_faults ground.new) (result ≡ Ending.Disk) }
     ensures source { Counts (S.faults source.old) (S.faults source.new) (result ≡ Ending.Source) }
@@ -326,7 +317,7 @@ pub fn converse<G: Ground, S: Source, U: Upstream, C: Clock, L: Ledger>(
     let mut most = limits.requests;
     'requests: loop {
         let turned = turn(
-            alloc, store, ground, source, clock, line, limits, &mut wire, &mut buf, most,
+            alloc, store, ground, source, clock, line, &mut wire, &mut buf, most,
         );
         match turned {
             Ok(()) => most -= 1,
