@@ -89,27 +89,31 @@ ended limits start s input told told' new v e a holds ready =
       };
     }
 
+-- a fact where the store serves on
+abbrev pub IfServes : Ending → Type 0 → Type 0
+IfServes e A = (e ≡ ending.Disk → ⊥) → (e ≡ ending.Memory → ⊥) → A
+
 pub at_input_end : (limits : Limits) (start : ℕ) (s : Stock) (input told told' : List ℕ) (new : State) (v : View) (e : Ending)
-    → AtStreamEnd e (Answers limits limits.requests (moments_from (pos start) limits.requests) s input told told' (shows new v)) → AtStreamEnd e (λ x. HoldsStore new v) → AtStreamEnd e (λ x. IsReady limits v)
+    → AtStreamEnd e (Answers limits limits.requests (moments_from (pos start) limits.requests) s input told told' (shows new v)) → IfServes e (HoldsStore new v) → IfServes e (IsReady limits v)
     → AtInputEnd (status_for e) (Replays limits start s input told told' new.files)
-at_input_end limits start s input told told' new v ending.End a h r = ended limits start s input told told' new v model.End a h r
-at_input_end limits start s input told told' new v ending.Cut a h r = inl (ended limits start s input told told' new v model.Cut a h r)
-at_input_end limits start s input told told' new v (ending.Bad why) a h r = inr (why, ended limits start s input told told' new v (model.Bad why) a h r)
-at_input_end limits start s input told told' new v ending.TooMany a h r = ended limits start s input told told' new v model.TooMany a h r
+at_input_end limits start s input told told' new v ending.End a h r = ended limits start s input told told' new v model.End a (h (λ q. cc) (λ q. cc)) (r (λ q. cc) (λ q. cc))
+at_input_end limits start s input told told' new v ending.Cut a h r = inl (ended limits start s input told told' new v model.Cut a (h (λ q. cc) (λ q. cc)) (r (λ q. cc) (λ q. cc)))
+at_input_end limits start s input told told' new v (ending.Bad why) a h r = inr (why, ended limits start s input told told' new v (model.Bad why) a (h (λ q. cc) (λ q. cc)) (r (λ q. cc) (λ q. cc)))
+at_input_end limits start s input told told' new v ending.TooMany a h r = ended limits start s input told told' new v model.TooMany a (h (λ q. cc) (λ q. cc)) (r (λ q. cc) (λ q. cc))
 at_input_end limits start s input told told' new v ending.Disk a h r = tt
 at_input_end limits start s input told told' new v ending.Tell a h r = tt
 at_input_end limits start s input told told' new v ending.Source a h r = tt
 at_input_end limits start s input told told' new v ending.Memory a h r = tt
 
-pub cut_end : (limits : Limits) (start : ℕ) (s : Stock) (input told told' : List ℕ) (e : Ending) → Stops e limits (beginning limits start s input) told told' → CutSo (status_for e) limits start s input told told'
-cut_end limits start s input told told' ending.End stops = inr stops
-cut_end limits start s input told told' ending.Cut stops = inr (stops.0, stops.1, stops.2, tt)
-cut_end limits start s input told told' (ending.Bad why) stops = inr (stops.0, stops.1, stops.2, tt)
-cut_end limits start s input told told' ending.TooMany stops = inr (stops.0, stops.1, stops.2, tt)
-cut_end limits start s input told told' ending.Disk stops = inr stops
-cut_end limits start s input told told' ending.Tell stops = inr stops
-cut_end limits start s input told told' ending.Source stops = inr stops
-cut_end limits start s input told told' ending.Memory stops = inr stops
+pub cut_end : (limits : Limits) (start : ℕ) (s : Stock) (input told told' : List ℕ) (after : Stock) (e : Ending) → Stops e limits (beginning limits start s input) told told' after → CutSo (status_for e) limits start s input told told'
+cut_end limits start s input told told' after ending.End stops = inr (after, stops)
+cut_end limits start s input told told' after ending.Cut stops = inr (after, (stops.0, stops.1, stops.2, tt))
+cut_end limits start s input told told' after (ending.Bad why) stops = inr (after, (stops.0, stops.1, stops.2, tt))
+cut_end limits start s input told told' after ending.TooMany stops = inr (after, (stops.0, stops.1, stops.2, tt))
+cut_end limits start s input told told' after ending.Disk stops = inr (after, stops)
+cut_end limits start s input told told' after ending.Tell stops = inr (after, stops)
+cut_end limits start s input told told' after ending.Source stops = inr (after, stops)
+cut_end limits start s input told told' after ending.Memory stops = inr (after, stops)
 
 -- ---- the same, of the store that the files were, by the clock of the run
 
@@ -123,7 +127,7 @@ module _ (one : OneStore) (limits : Limits) (start : ℕ) (input : List ℕ) (ol
   its_stock s has = the_stock one limits start input old mid new v was contents quiet s has
 
   pub replies_so : (v' : View) (e : Ending) → AtStreamEnd e (Answers limits limits.requests moments first input (mid.told 0) (new.told 0) (shows new v'))
-      → AtStreamEnd e (λ x. HoldsStore new v') → AtStreamEnd e (λ x. IsReady limits v')
+      → IfServes e (HoldsStore new v') → IfServes e (IsReady limits v')
       → (s : Stock) → HasStock limits old.files s → AtInputEnd (status_for e) (Replays limits start s input (old.told 0) (new.told 0) new.files)
   replies_so v' e a h r s has =
       let told = at_input_end limits start first input (mid.told 0) (new.told 0) new v' e
@@ -131,11 +135,11 @@ module _ (one : OneStore) (limits : Limits) (start : ℕ) (input : List ℕ) (ol
       subst (λ (t : Bytes). AtInputEnd (status_for e) (Replays limits start s input (t 0) (new.told 0) new.files)) quiet
       (subst (λ (x : Stock). AtInputEnd (status_for e) (Replays limits start x input (mid.told 0) (new.told 0) new.files)) (its_stock s has) told)
 
-  pub cut_so : (e : Ending) → Stops e limits (record { most = limits.requests; moments = moments; stock = first; input = input }) (mid.told 0) (new.told 0)
+  pub cut_so : (after : Stock) (e : Ending) → Stops e limits (record { most = limits.requests; moments = moments; stock = first; input = input }) (mid.told 0) (new.told 0) after
       → (s : Stock) → HasStock limits old.files s → CutSo (status_for e) limits start s input (old.told 0) (new.told 0)
-  cut_so e stops s has =
-      let cut = cut_end limits start first input (mid.told 0) (new.told 0) e
-      (subst (λ (m : List ℤ). Stops e limits (record { most = limits.requests; moments = m; stock = first; input = input }) (mid.told 0) (new.told 0)) clock stops) in
+  cut_so after e stops s has =
+      let cut = cut_end limits start first input (mid.told 0) (new.told 0) after e
+      (subst (λ (m : List ℤ). Stops e limits (record { most = limits.requests; moments = m; stock = first; input = input }) (mid.told 0) (new.told 0) after) clock stops) in
       subst (λ (t : Bytes). CutSo (status_for e) limits start s input (t 0) (new.told 0)) quiet
       (subst (λ (x : Stock). CutSo (status_for e) limits start x input (mid.told 0) (new.told 0)) (its_stock s has) cut)
 

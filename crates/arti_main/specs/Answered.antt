@@ -96,7 +96,7 @@ beginning limits start s input =
 -- telling some first bytes of the next reply behind them. Where the store wasn't opened, nothing was told.
 abbrev pub CutSo : Status → Limits → ℕ → Stock → List ℕ → List ℕ → List ℕ → Type 0
 CutSo status limits start s input told told' =
-    (told' ≡ told) ⊎ Stops (fault_of status) limits (beginning limits start s input) told told'
+    (told' ≡ told) ⊎ ((after : Stock) × Stops (fault_of status) limits (beginning limits start s input) told told' after)
 
 -- At a moment of a run on files that were a store's: the image is that of the store after a prefix of the accepted changes, which holds each
 -- one whose reply has a byte among those that were told, and at most one more.

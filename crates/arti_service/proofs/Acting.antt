@@ -18,7 +18,7 @@ use Rattle.arti_service.specs.Stocks.{IsReady}
 use Rattle.arti_service.specs.Moments.{AtMoment, Telling, During, waits, tells}
 use Rattle.arti_service.specs.Acts.{Acts}
 use Rattle.arti_service.specs.CrashLaws.{image_stands}
-use Rattle.arti_service.proofs.Stops.{stops_telling, stopped_more, tells_in, tells_more, on_ok}
+use Rattle.arti_service.proofs.Stops.{stops_telling, stopped_more, tells_in, tells_more}
 
 -- a call that leaves the disk leaves the store
 pub leaves_stock : (s s' : State) (v : View) → LeavesDisk s s' → shows s' v ≡ shows s v
@@ -49,8 +49,8 @@ pub telling_acts : (limits : Limits) (line : ℕ) (IsOne : List ℕ → Type 0) 
     → Acts limits line IsOne (shows s v) result s s' v v
 telling_acts limits line IsOne reply result s s' v ready holds one disk told stops time = record {
   told = tells_in result IsOne reply (s.told line) (s'.told line) one told;
-  stock = on_ok result (shows s' v ≡ shows s v) (leaves_stock s s' v disk);
-  holds = on_ok result (HoldsStore s' v) (stays s s' v disk holds);
+  stock = λ disk_works memory. leaves_stock s s' v disk;
+  holds = λ disk_works memory. stays s s' v disk holds;
   stops = stops_telling result IsOne reply (s.told line) (s'.told line) one stops;
   moments = passes_map s s' (Telling s line reply) _ (telling_moment limits line IsOne reply s v (shows s v).holding ready holds one) time;
 }

@@ -20,7 +20,7 @@ use Rattle.arti_service.specs.Parts.{full_reply}
 use Rattle.arti_service.specs.Asks.{Tells}
 use Rattle.arti_service.specs.Acts.{Acts, ActsFor}
 use Rattle.arti_service.specs.CrashLaws.{image_stands}
-use Rattle.arti_service.proofs.Stops.{tells_in, on_ok}
+use Rattle.arti_service.proofs.Stops.{tells_in}
 use Rattle.arti_service.proofs.Acting.{leaves_stock, stays, telling_moment, telling_acts, acts_after, standing_moment}
 
 untold : (why : Stop) (IsOne : List ℕ → Type 0) (reply told told' : List ℕ) → IsOne reply → told' ≡ told → StoppedIn why IsOne told told'
@@ -28,13 +28,19 @@ untold stop.Disk IsOne reply told told' one is = (reply, one, (0, is ∙ sym (ap
 untold stop.Tell IsOne reply told told' one is = (reply, one, (0, is ∙ sym (append-nil told)))
 untold stop.Memory IsOne reply told told' one is = is
 
--- a fault or want of memory while nothing was told and the store stood as it was
-pub standing_acts : (limits : Limits) (line : ℕ) (answer : Answer) (why : Stop) (s s1 : State) (v v1 : View) → IsReady limits v → s1.told ≡ s.told → Passes s s1 (Standing s v)
+-- a fault of the disk, or want of memory
+abbrev pub Loses : Stop → Type 0
+Loses why =
+    let result : Result (Unit {0}) Stop = Err why in
+    (result ≡ Err stop.Disk → ⊥) → (result ≡ Err stop.Memory → ⊥) → ⊥
+
+-- a fault of the disk or want of memory while nothing was told and the store stood as it was
+pub standing_acts : (limits : Limits) (line : ℕ) (answer : Answer) (why : Stop) (s s1 : State) (v v1 : View) → Loses why → IsReady limits v → s1.told ≡ s.told → Passes s s1 (Standing s v)
     → ActsFor limits line answer (Err why) s s1 v v1
-standing_acts limits line answer why s s1 v v1 ready quiet time = record {
+standing_acts limits line answer why s s1 v v1 loses ready quiet time = record {
   told = tt;
-  stock = tt;
-  holds = tt;
+  stock = λ disk memory. absurd (loses disk memory);
+  holds = λ disk memory. absurd (loses disk memory);
   stops = untold why (λ r. r ≡ answer.reply) answer.reply (s.told line) (s1.told line) refl (ap (λ (t : Bytes). t line) quiet);
   moments = passes_map s s1 _ _ (standing_moment limits line (λ r. r ≡ answer.reply) answer.stock.holding s v ready) time;
 }
@@ -59,8 +65,8 @@ pub front_acts : (limits : Limits) (line : ℕ) (reply : List ℕ) (result : Res
     → Acts limits line (λ r. r ≡ reply) (shows s v) result s s1 v v
 front_acts limits line reply result s s1 v ready holds disk some told front time = record {
   told = tells_in result (λ r. r ≡ reply) reply (s.told line) (s1.told line) refl told;
-  stock = on_ok result (shows s1 v ≡ shows s v) (leaves_stock s s1 v disk);
-  holds = on_ok result (HoldsStore s1 v) (stays s s1 v disk holds);
+  stock = λ disk_works memory. leaves_stock s s1 v disk;
+  holds = λ disk_works memory. stays s s1 v disk holds;
   stops = stops_front result (λ r. r ≡ reply) reply (s.told line) (s1.told line) refl some front;
   moments = passes_map s s1 (Telling s line reply) _ (telling_moment limits line (λ r. r ≡ reply) reply s v (shows s v).holding ready holds refl) time;
 }
@@ -81,11 +87,11 @@ module _ (line : ℕ) (s : State) (v : View) (answer : Answer) where
       here.image
 
   -- a fault of the disk or want of memory in it
-  pub stopped_acts : (why : Stop) (s1 : State) (v1 : View) → s1.told ≡ s.told → Passes s s1 Between → ActsFor v.limits line answer (Err why) s s1 v v1
-  stopped_acts why s1 v1 quiet time = record {
+  pub stopped_acts : (why : Stop) (s1 : State) (v1 : View) → Loses why → s1.told ≡ s.told → Passes s s1 Between → ActsFor v.limits line answer (Err why) s s1 v v1
+  stopped_acts why s1 v1 loses quiet time = record {
     told = tt;
-    stock = tt;
-    holds = tt;
+    stock = λ disk memory. absurd (loses disk memory);
+    holds = λ disk memory. absurd (loses disk memory);
     stops = untold why (λ r. r ≡ answer.reply) answer.reply (s.told line) (s1.told line) refl (ap (λ (t : Bytes). t line) quiet);
     moments = passes_map s s1 _ _ commit_moment time;
   }
@@ -103,8 +109,8 @@ module _ (line : ℕ) (s : State) (v : View) (answer : Answer) where
       let P = During (λ r. r ≡ answer.reply) (shows s v).holding answer.stock.holding in
       record {
         told = subst (λ (l : List ℕ). OnOk result (Tells (λ r. r ≡ answer.reply) l (s2.told line))) same_told (tells_in result (λ r. r ≡ answer.reply) reply (s1.told line) (s2.told line) one told);
-        stock = on_ok result (shows s2 v1 ≡ answer.stock) (leaves_stock s1 s2 v1 disk ∙ stock1);
-        holds = on_ok result (HoldsStore s2 v1) (stays s1 s2 v1 disk holds);
+        stock = λ disk_works memory. leaves_stock s1 s2 v1 disk ∙ stock1;
+        holds = λ disk_works memory. stays s1 s2 v1 disk holds;
         stops = subst (λ (l : List ℕ). IfErr result (λ x. StoppedIn x (λ r. r ≡ answer.reply) l (s2.told line))) same_told (stops_front result (λ r. r ≡ answer.reply) reply (s1.told line) (s2.told line) one some front);
         moments = passes_then s s1 s2 _
             (passes_map s s1 _ _ commit_moment time)

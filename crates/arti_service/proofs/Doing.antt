@@ -100,21 +100,19 @@ may_is limits s q moment (asked.Fetch key) answer reads is reply may = inl (may 
 may_is limits s q moment asked.Query answer reads is reply may =
     ⊎_elim (λ same. inl (same ∙ ap (λ (x : Answer). x.reply) is)) (λ memory. inr (reads, memory)) may
 
-pub step_acts : (limits : Limits) (line : ℕ) (alone : Bool) (q : Whole) (moment : ℤ) (a : Asked) (result : Result (Unit {0}) Stop) (x x' : State) (v v' : View)
-    → v.limits ≡ limits → alone ≡ is_head q.head → asked_is a ≡ model.ask_of q.head → IsKnownToRead a q.head
+pub step_acts : (line : ℕ) (alone : Bool) (q : Whole) (moment : ℤ) (a : Asked) (result : Result (Unit {0}) Stop) (x x' : State) (v v' : View)
+    → alone ≡ is_head q.head → asked_is a ≡ model.ask_of q.head → IsKnownToRead a q.head
     → Acts v.limits line (MayReply a (perform v.limits (shows x v) alone (asked_over (x.files 3) v (asked_is a) q.body (file_of_body q.body) moment)))
     (perform v.limits (shows x v) alone (asked_over (x.files 3) v (asked_is a) q.body (file_of_body q.body) moment)).stock result x x' v v'
-    → Acts limits line (IsReply limits (shows x v) q moment) (step limits (shows x v) q moment).stock result x x' v v'
+    → Acts v.limits line (IsReply v.limits (shows x v) q moment) (step v.limits (shows x v) q moment).stock result x x' v v'
 unfolding step
-step_acts limits line alone q moment a result x x' v v' same head asks reads acts =
+step_acts line alone q moment a result x x' v v' head asks reads acts =
     let s = shows x v in
-    let at : Limits → Bool → Result model.Ask Refusal → Answer =
-    λ l b r. perform l s b (model.decided (λ file. reference_to file s.holding.kept) l s.holding.repository r q.body (file_of_body q.body) moment) in
-    let is : at v.limits alone (asked_is a) ≡ step limits s q moment = (λ i. at (same i) (head i) (asks i)) in
-    let here : Acts limits line (MayReply a (at v.limits alone (asked_is a))) (at v.limits alone (asked_is a)).stock result x x' v v' =
-    subst (λ (l : Limits). Acts l line (MayReply a (at v.limits alone (asked_is a))) (at v.limits alone (asked_is a)).stock result x x' v v') same acts in
-    acts_more limits line (MayReply a (at v.limits alone (asked_is a))) (IsReply limits s q moment) _ _ result x x' v v'
-    (may_is limits s q moment a (at v.limits alone (asked_is a)) reads is) (ap (λ (y : Answer). y.stock) is) here
+    let at : Bool → Result model.Ask Refusal → Answer =
+    λ b r. perform v.limits s b (model.decided (λ file. reference_to file s.holding.kept) v.limits s.holding.repository r q.body (file_of_body q.body) moment) in
+    let is : at alone (asked_is a) ≡ step v.limits s q moment = (λ i. at (head i) (asks i)) in
+    acts_more v.limits line (MayReply a (at alone (asked_is a))) (IsReply v.limits s q moment) _ _ result x x' v v'
+    (may_is v.limits s q moment a (at alone (asked_is a)) reads is) (ap (λ (y : Answer). y.stock) is) acts
 
 -- what is asked, said otherwise
 module _ (line : ℕ) (alone : Bool) (body : List ℕ) (moment : ℤ) (result : Result (Unit {0}) Stop) (x x' : State) (v v' : View) where

@@ -1,10 +1,9 @@
 -- How the end of a stream, and one more request, are answered.
-use Rattle.std.proofs.Common.{◌≡◌, inr, ◌⊎◌, ⊎_elim, ℕ, ◌-◌, ◌<◌, ℤ, Bool, true, false, List, [], ◌∷◌, ◌++◌, length, drop, refl, sym, ap, ◌∙◌, subst, append_assoc}
+use Rattle.std.proofs.Common.{◌≡◌, inr, ℕ, ◌-◌, ◌<◌, ℤ, Bool, true, false, List, [], ◌∷◌, ◌++◌, length, drop, refl, sym, ap, ◌∙◌, subst, append_assoc}
 use Rattle.std.specs.Prelude.{MatchBool}
 use Rattle.std.proofs.lemmas.List.{append-nil}
 use Rattle.std.proofs.lemmas.Bool.{false≢true}
 use Rattle.arti_rows.specs.declared.limits.Limits.{Limits}
-use Rattle.arti_service.specs.Endings.{IsFault, IsCutOrFault}
 use Rattle.arti_model.specs.Requests.{Start, Request, Whole, Begins, AtEnd, AtBad, Head, EndsSo, RequestBytes}
 use Rattle.arti_model.specs.Requests as model
 use Rattle.arti_model.specs.declared.Why.{Why}
@@ -25,6 +24,17 @@ pub goes_by : (b : Bool) (A B : Type 0) → b ≡ false → B → MatchBool b A 
 goes_by true A B e h = absurd (false≢true (sym e))
 goes_by false A B e h = h
 
+-- a fact of the ending that another one makes
+pub at_stream_end : (P Q : model.Ending → Type 0) → ((e : model.Ending) → P e → Q e) → (e : Ending) → AtStreamEnd e P → AtStreamEnd e Q
+at_stream_end P Q f ending.End p = f model.End p
+at_stream_end P Q f ending.Cut p = f model.Cut p
+at_stream_end P Q f (ending.Bad why) p = f (model.Bad why) p
+at_stream_end P Q f ending.TooMany p = f model.TooMany p
+at_stream_end P Q f ending.Disk p = p
+at_stream_end P Q f ending.Tell p = p
+at_stream_end P Q f ending.Source p = p
+at_stream_end P Q f ending.Memory p = p
+
 module _ (limits : Limits) (most : ℕ) (moments : List ℤ) (s : Stock) (input : List ℕ) where
   none : (e : model.Ending) → EndsSo limits.content most input e → IsAnswered limits most moments s input e (last_reply e) s
   none e ends = record { requests = []; reads = ends; answers = refl; leaves = refl }
@@ -35,24 +45,11 @@ module _ (limits : Limits) (most : ℕ) (moments : List ℤ) (s : Stock) (input 
       let silent : told' ≡ told ++ bytes = same_told ∙ sym (append-nil told) ∙ ap (λ (l : List ℕ). told ++ l) (sym quiet) in
       (bytes, subst (λ (x : Stock). IsAnswered limits most moments s input e bytes x) (sym same) (none e ends), silent)
 
-  pub ends_bad : (why : Why) (e : Ending) (told told' : List ℕ) (s' : Stock) → 0 < most → Begins limits.content input (AtBad why) → (e ≡ ending.Bad why) ⊎ IsFault e
-      → (e ≡ ending.Bad why → told' ≡ told ++ error_reply why) → s' ≡ s → AtStreamEnd e (Answers limits most moments s input told told' s')
-  ends_bad why e told told' s' some begins ends tells same =
-      ⊎_elim
-      (λ (is : e ≡ ending.Bad why). subst (λ (x : Ending). AtStreamEnd x (Answers limits most moments s input told told' s')) (sym is)
-      (error_reply why, subst (λ (x : Stock). IsAnswered limits most moments s input (model.Bad why) (error_reply why) x) (sym same) (none (model.Bad why) (some, begins)), tells is))
-      (λ fault. by_fault e (Answers limits most moments s input told told' s') fault)
-      ends
-    where
-      by_fault : (e : Ending) (P : model.Ending → Type 0) → IsFault e → AtStreamEnd e P
-      by_fault ending.End P h = absurd h
-      by_fault ending.Cut P h = absurd h
-      by_fault (ending.Bad w) P h = absurd h
-      by_fault ending.TooMany P h = absurd h
-      by_fault ending.Disk P h = tt
-      by_fault ending.Tell P h = tt
-      by_fault ending.Source P h = tt
-      by_fault ending.Memory P h = tt
+  pub ends_bad : (why : Why) (e : Ending) (told told' : List ℕ) (s' : Stock) → 0 < most → Begins limits.content input (AtBad why)
+      → AtStreamEnd e (λ x. (x ≡ model.Bad why) × (told' ≡ told ++ error_reply why)) → s' ≡ s → AtStreamEnd e (Answers limits most moments s input told told' s')
+  ends_bad why e told told' s' some begins tells same =
+      at_stream_end (λ x. (x ≡ model.Bad why) × (told' ≡ told ++ error_reply why)) (Answers limits most moments s input told told' s') (λ x is. subst (Answers limits most moments s input told told' s') (sym is.0)
+      (error_reply why, subst (λ (y : Stock). IsAnswered limits most moments s input (model.Bad why) (error_reply why) y) (sym same) (none (model.Bad why) (some, begins)), is.1)) e tells
 
   module _ (head : Request) (n : ℕ) (rest : List ℕ) (some : 0 < most) (begins : Begins limits.content input (Head head n rest)) where
     pub ends_in_body : (told told' : List ℕ) (s' : Stock) → CutsShort n rest s s' told told' → Answers limits most moments s input told told' s' model.Cut
@@ -111,31 +108,11 @@ module _ (limits : Limits) (most : ℕ) (moments : List ℤ) (s : Stock) (input 
             );
       }
 
-pub at_stream_end : (P Q : model.Ending → Type 0) → ((e : model.Ending) → P e → Q e) → (e : Ending) → AtStreamEnd e P → AtStreamEnd e Q
-at_stream_end P Q f ending.End p = f model.End p
-at_stream_end P Q f ending.Cut p = f model.Cut p
-at_stream_end P Q f (ending.Bad why) p = f (model.Bad why) p
-at_stream_end P Q f ending.TooMany p = f model.TooMany p
-at_stream_end P Q f ending.Disk p = p
-at_stream_end P Q f ending.Tell p = p
-at_stream_end P Q f ending.Source p = p
-at_stream_end P Q f ending.Memory p = p
-
 -- the stream has more, though no more requests are answered
 pub too_many : ((content : ℕ) (bytes : List ℕ) (s t : Start) → Begins content bytes s → Begins content bytes t → s ≡ t)
     → (limits : Limits) (most : ℕ) (moments : List ℤ) (s : Stock) (input told : List ℕ) (start : Start) → most ≡ 0 → Begins limits.content input start → (start ≡ AtEnd → ⊥) → Answers limits most moments s input told told s model.TooMany
 too_many once limits most moments s input told start zero begins other =
     ends_untold limits most moments s input model.TooMany told told s refl (zero, λ at_end. other (once limits.content input start AtEnd begins at_end)) refl refl
-
-pub cut_end : (e : Ending) (P : model.Ending → Type 0) → IsCutOrFault e → (e ≡ ending.Cut → P model.Cut) → AtStreamEnd e P
-cut_end ending.End P h f = absurd h
-cut_end ending.Cut P h f = f refl
-cut_end (ending.Bad why) P h f = absurd h
-cut_end ending.TooMany P h f = absurd h
-cut_end ending.Disk P h f = tt
-cut_end ending.Tell P h f = tt
-cut_end ending.Source P h f = tt
-cut_end ending.Memory P h f = tt
 
 pub goes_through : (limits : Limits) (most : ℕ) (moments : List ℤ) (s : Stock) (input told told' : List ℕ) (most0 : ℕ) (moments0 : List ℤ) (s0 s' : Stock) (input0 told0 : List ℕ) (e : Ending)
     → ((x : model.Ending) (bytes : List ℕ) (after : Stock) → IsAnswered limits most moments s input x bytes after → (all : List ℕ) × IsAnswered limits most0 moments0 s0 input0 x all after × (told ++ bytes ≡ told0 ++ all))

@@ -1,5 +1,5 @@
 -- What the answering of a request does.
-use Rattle.std.specs.Prelude.{◌≡◌, ℕ, ◌<◌, List, ◌++◌, length, Option, IfSome, Contains, Result, OnOk, IfErr}
+use Rattle.std.specs.Prelude.{◌≡◌, ◌≢◌, ℕ, ◌<◌, List, ◌++◌, length, Option, IfSome, Contains, Result, Err, OnOk, IfErr}
 use Rattle.arti_rows.specs.declared.limits.Limits.{Limits}
 use Rattle.arti_ground.specs.State.{State, Passes}
 use Rattle.arti_blobs.specs.declared.staging.Staged.{Staged}
@@ -9,6 +9,7 @@ use Rattle.arti_model.specs.Stock.{Stock, Answer, unchanged, accept}
 use Rattle.arti_store.specs.Items.{file_in}
 use Rattle.arti_store.specs.Store.{View, contents_at, shows, HoldsStore}
 use Rattle.arti_service.specs.declared.answering.Stop.{Stop}
+use Rattle.arti_service.specs.declared.answering.Stop.TheVariants as stop
 use Rattle.arti_service.specs.declared.act.Act.{Act}
 use Rattle.arti_service.specs.declared.act.Act.TheVariants.{Tell, Send, Commit}
 use Rattle.arti_service.specs.declared.decision.Body.{Body}
@@ -74,12 +75,12 @@ IsWholeIn bytes (Makes change reply) = HasWhole bytes reply
 
 -- ---- what it does
 
--- A reply of these was told whole, and the store is as behind; or some first bytes of it were. At each moment the image stands for the store
+-- A reply of these was told whole, or some first bytes of it were; the store is as behind where telling alone failed, too. At each moment the image stands for the store
 -- before or behind, and for the one behind as soon as a byte was told.
 pub record Acts (limits : Limits) (line : ℕ) (IsOne : List ℕ → Type 0) (behind : Stock) (result : Result (Unit {0}) Stop) (s s' : State) (v v' : View) : Type 0 where
   pub told : OnOk result (asks.Tells IsOne (s.told line) (s'.told line))
-  pub stock : OnOk result (shows s' v' ≡ behind)
-  pub holds : OnOk result (HoldsStore s' v')
+  pub stock : result ≢ Err stop.Disk → result ≢ Err stop.Memory → shows s' v' ≡ behind
+  pub holds : result ≢ Err stop.Disk → result ≢ Err stop.Memory → HoldsStore s' v'
   pub stops : IfErr result (λ stop. StoppedIn stop IsOne (s.told line) (s'.told line))
   pub moments : Passes s s' (AtMoment limits line s.told (During IsOne (shows s v).holding behind.holding))
 

@@ -1,5 +1,5 @@
 // One request is answered: what its head asks, what is decided of it, and what is done.
-ghost use Rattle.std.specs.Prelude.{◌≡◌, ◌≢◌, ◌⊎◌, ◌≤◌, ℕ, ℤ, List, length, OnOk, IfOk, IsErrOf, Ok, Err, None};
+ghost use Rattle.std.specs.Prelude.{◌≡◌, ◌≢◌, ◌⊎◌, ◌≤◌, ℕ, ℤ, List, length, IfOk, IsErrOf, Ok, Err, None};
 ghost use Rattle.arti_rows.specs.declared.limits.Limits.{Limits};
 ghost use Rattle.arti_ground.specs.State.{Counts};
 ghost use Rattle.arti_model.specs.Store.{File, local_key};
@@ -26,7 +26,7 @@ use crate::query::decide_query;
 use crate::telling::tell_memory;
 use arti_ground::Ground;
 use arti_route::has_method;
-use arti_rows::{ItemKey, Limits, Moment, SomeDigests};
+use arti_rows::{ItemKey, Moment, SomeDigests};
 use arti_store::Store;
 use arti_wire::Request;
 use std::alloc::{AllocError, Global};
@@ -95,7 +95,7 @@ fn answer_deploy<G: Ground>(
     ensures acts { G.tells → ActsFor store.old.limits line
         (answered (G.state ground.old) store.old alone (Ok (model.Deploy key wanted.now)) body.now (file_of_body body.now) moment)
         result (G.state ground.old) (G.state ground.new) store.old store.new }
-    ensures ready { OnOk result (IsReady store.old.limits store.new) }
+    ensures ready { result ≢ Err Stop.Disk → result ≢ Err Stop.Memory → IsReady store.old.limits store.new }
     ensures tell { CountsTold line (G.tell_faults ground.old) (G.tell_faults ground.new) (IsErrOf result Stop.Tell) }
     ensures disk { Counts (G.disk_faults ground.old) (G.disk_faults ground.new) (IsErrOf result Stop.Disk) }
 {
@@ -133,7 +133,7 @@ fn answer_query<G: Ground>(
         (λ reply. (reply ≡ (answered (G.state ground.old) store.old alone (Ok model.Query) body.now sent moment).reply) ⊎ (reply ≡ memory_reply))
         (answered (G.state ground.old) store.old alone (Ok model.Query) body.now sent moment).stock
         result (G.state ground.old) (G.state ground.new) store.old store.new }
-    ensures ready { OnOk result (IsReady store.old.limits store.new) }
+    ensures ready { result ≢ Err Stop.Disk → result ≢ Err Stop.Memory → IsReady store.old.limits store.new }
     ensures no_memory { result ≢ Err Stop.Memory }
     ensures tell { CountsTold line (G.tell_faults ground.old) (G.tell_faults ground.new) (IsErrOf result Stop.Tell) }
     ensures disk { Counts (G.disk_faults ground.old) (G.disk_faults ground.new) (IsErrOf result Stop.Disk) }
@@ -161,7 +161,7 @@ fn answer_head<G: Ground>(
     ensures acts { G.tells → (body : List ℕ) (sent : File) → ActsFor store.old.limits line
         (answered (G.state ground.old) store.old alone (asked_is asked) body sent moment)
         result (G.state ground.old) (G.state ground.new) store.old store.new }
-    ensures ready { OnOk result (IsReady store.old.limits store.new) }
+    ensures ready { result ≢ Err Stop.Disk → result ≢ Err Stop.Memory → IsReady store.old.limits store.new }
     ensures tell { CountsTold line (G.tell_faults ground.old) (G.tell_faults ground.new) (IsErrOf result Stop.Tell) }
     ensures disk { Counts (G.disk_faults ground.old) (G.disk_faults ground.new) (IsErrOf result Stop.Disk) }
 {
@@ -188,7 +188,7 @@ fn answer_asked<G: Ground>(
         (MayReply asked (answered (G.state ground.old) store.old alone (asked_is asked) body.now (file_of_body body.now) moment))
         (answered (G.state ground.old) store.old alone (asked_is asked) body.now (file_of_body body.now) moment).stock
         result (G.state ground.old) (G.state ground.new) store.old store.new }
-    ensures ready { OnOk result (IsReady store.old.limits store.new) }
+    ensures ready { result ≢ Err Stop.Disk → result ≢ Err Stop.Memory → IsReady store.old.limits store.new }
     ensures tell { CountsTold line (G.tell_faults ground.old) (G.tell_faults ground.new) (IsErrOf result Stop.Tell) }
     ensures disk { Counts (G.disk_faults ground.old) (G.disk_faults ground.new) (IsErrOf result Stop.Disk) }
 {
@@ -233,24 +233,23 @@ pub fn answer<G: Ground>(
     store: &mut Store,
     ground: &mut G,
     line: u32,
-    limits: &Limits,
     request: &Request,
     body: &[u8],
     moment: Moment,
 ) -> Result<(), Stop>
-    requires ready { IsReady limits.now store.old }
+    requires ready { IsReady store.old.limits store.old }
     requires holds { G.tells → HoldsStore (G.state ground.old) store.old }
-    requires short { length body.now ≤ limits.now.content }
-    ensures acts { G.tells → Acts limits.now line
-        (IsReply limits.now (shows (G.state ground.old) store.old) (record { head = request.now; body = body.now }) moment)
-        (step limits.now (shows (G.state ground.old) store.old) (record { head = request.now; body = body.now }) moment).stock
+    requires short { length body.now ≤ store.old.limits.content }
+    ensures acts { G.tells → Acts store.old.limits line
+        (IsReply store.old.limits (shows (G.state ground.old) store.old) (record { head = request.now; body = body.now }) moment)
+        (step store.old.limits (shows (G.state ground.old) store.old) (record { head = request.now; body = body.now }) moment).stock
         result (G.state ground.old) (G.state ground.new) store.old store.new }
-    ensures ready { OnOk result (IsReady limits.now store.new) }
+    ensures ready { result ≢ Err Stop.Disk → result ≢ Err Stop.Memory → IsReady store.old.limits store.new }
     ensures tell { CountsTold line (G.tell_faults ground.old) (G.tell_faults ground.new) (IsErrOf result Stop.Tell) }
     ensures disk { Counts (G.disk_faults ground.old) (G.disk_faults ground.new) (IsErrOf result Stop.Disk) }
 {
     // For the proof alone: a content has at most as many bytes as the record of one may say.
-    let _limits = limits;
+    let _limits = store.limits();
     let asked = ask_of(alloc, request)?;
     let alone = has_method(request, "HEAD");
     answer_asked(alloc, store, ground, line, alone, asked, body, moment)

@@ -1,7 +1,7 @@
 use Rattle.std.proofs.Common.{List, ℕ, ap, sym, subst, refl}
 use Rattle.std.specs.Prelude.{Err}
 use Rattle.arti_store.specs.declared.fault.OpenFault.{OpenFault}
-use Rattle.arti_store.specs.Store.{holding_of}
+use Rattle.arti_store.specs.Store.{holding_of, shows}
 use Rattle.arti_service.specs.Stocks.{IsReady}
 use Rattle.arti_main.specs.declared.top.Status.{Status}
 use Rattle.arti_main.specs.Answered.{Replays, AtInputEnd, CutSo}
@@ -50,7 +50,7 @@ returns-clause-cut g c = λ gt st s has.
     subst (λ (x : Status). CutSo x c.args.limits.now c.args.start s input (old.told 0) (new.told 0)) (sym c.status_of.ensures)
     (cut_so c.files_stand_for_one_store.ensures c.args.limits.now c.args.start input old (g.G.Ground.state c.open.new.ground) new c.in-Ok.store
     (c.in-Ok.ensures.stands gt) (c.in-Ok.ensures.contents gt) (c.open.ensures.told gt) c.new-clock.result c.new-clock.ensures
-    c.converse-ending.result (c.converse-ending.ensures.stops gt st tt) s has)
+    (shows new c.converse-ending.new.store) c.converse-ending.result (c.converse-ending.ensures.stops gt st tt) s has)
 
 pub returns-clause-crash : goal.returns-clause-crash
 returns-clause-crash g c = λ gt st.

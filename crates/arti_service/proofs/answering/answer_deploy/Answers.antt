@@ -1,4 +1,4 @@
-use Rattle.std.proofs.Common.{◌≡◌, [], sym, subst, rules}
+use Rattle.std.proofs.Common.{◌≡◌, [], refl, sym, ap, subst, rules}
 use Rattle.arti_store.specs.Store.{shows}
 use Rattle.std.specs.Prelude.{Result, Err, Some}
 use Rattle.arti_model.specs.Decide.{file_of_body}
@@ -16,7 +16,7 @@ returns-in-Err-clause-acts g c = λ gt.
     let x = g.G.Ground.state c.args.ground.now in
     let v = c.args.store.now in
     standing_acts v.limits c.args.line (answered c.args.line c.args.alone c.args.key c.args.wanted.now c.args.body.now c.args.moment v.limits (shows x v) (file_of_body c.args.body.now))
-    c.in-Err.stop x (g.G.Ground.state c.stage.new.ground) v c.stage.new.store c.requires.ready (c.in-Err.ensures.told gt) (c.in-Err.ensures.moments gt)
+    c.in-Err.stop x (g.G.Ground.state c.stage.new.ground) v c.stage.new.store (λ disk memory. disk (ap (λ (w : Stop). Err w) c.in-Err.ensures.stops)) c.requires.ready (c.in-Err.ensures.told gt) (c.in-Err.ensures.moments gt)
 
 pub returns-in_err-decision-clause-acts : goal.returns-in_err-decision-clause-acts
 returns-in_err-decision-clause-acts g c = λ gt.
@@ -26,7 +26,7 @@ returns-in_err-decision-clause-acts g c = λ gt.
     let answer = answered c.args.line c.args.alone c.args.key c.args.wanted.now c.args.body.now c.args.moment v.limits (shows x v) (file_of_body c.args.body.now) in
     let from : c.from_residual.result ≡ Err stop.Memory = search rules in
     subst (λ (r : Result (Unit {0}) Stop). ActsFor v.limits c.args.line answer r x mid v c.stage.new.store) (sym from)
-    (standing_acts v.limits c.args.line answer stop.Memory x mid v c.stage.new.store c.requires.ready (c.in-Ok.ensures.told gt) (c.in-Ok.ensures.moments gt))
+    (standing_acts v.limits c.args.line answer stop.Memory x mid v c.stage.new.store (λ disk memory. memory refl) c.requires.ready (c.in-Ok.ensures.told gt) (c.in-Ok.ensures.moments gt))
 
 pub perform-requires-clause-may : goal.perform-requires-clause-may
 perform-requires-clause-may g c = (c.in_ok-decision.ensures c.args.body.now).may

@@ -68,7 +68,7 @@ returns-in-Err-Device-clause-acts g c = λ gt.
     let x = g.G.Ground.state c.args.ground.now in
     let v = c.args.store.now in
     let reply : List ℕ = c.args.head.now ++ rest_at x (option_copied c.args.file) in
-    stopped_acts c.args.line x v (accept v.limits (shows x v) (file_at x) c.args.change reply) stop.Disk (g.G.Ground.state c.commit.new.ground) c.commit.new.self (c.commit.ensures.told gt)
+    stopped_acts c.args.line x v (accept v.limits (shows x v) (file_at x) c.args.change reply) stop.Disk (g.G.Ground.state c.commit.new.ground) c.commit.new.self (λ disk memory. disk refl) (c.commit.ensures.told gt)
     (c.commit.ensures.moments gt c.requires.ready.still_open reply)
 
 pub returns-in-Err-Memory-clause-acts : goal.returns-in-Err-Memory-clause-acts
@@ -76,7 +76,7 @@ returns-in-Err-Memory-clause-acts g c = λ gt.
     let x = g.G.Ground.state c.args.ground.now in
     let v = c.args.store.now in
     let reply : List ℕ = c.args.head.now ++ rest_at x (option_copied c.args.file) in
-    stopped_acts c.args.line x v (accept v.limits (shows x v) (file_at x) c.args.change reply) stop.Memory (g.G.Ground.state c.commit.new.ground) c.commit.new.self (c.commit.ensures.told gt)
+    stopped_acts c.args.line x v (accept v.limits (shows x v) (file_at x) c.args.change reply) stop.Memory (g.G.Ground.state c.commit.new.ground) c.commit.new.self (λ disk memory. memory refl) (c.commit.ensures.told gt)
     (c.commit.ensures.moments gt c.requires.ready.still_open reply)
 
 pub unreachable-requires : goal.unreachable-requires

@@ -35,6 +35,7 @@ pub requests-preserved : goal.requests-preserved
 requests-preserved g c =
     let before = c.requests.invariant in
     let turned = c.in-Ok-turned.ensures in
+    let same_limits = before.ready.limits_are in
     let old = c.requests.buf.items in
     let new = c.turn-turned.new.buf in
     let size : c.requests.buf.len ≡ length old = search rules in
@@ -42,19 +43,19 @@ requests-preserved g c =
     record {
       phase = turned.phase;
       room = omega (arith, length-take c.requests.buf.len (new ++ drop (length new) old), length-append new (drop (length new) old), size, same, before.room);
-      ready = turned.ready;
-      holds = turned.holds;
+      ready = rw same_limits at (turned.ready (λ q. cc) (λ q. cc));
+      holds = λ gt. turned.holds gt (λ q. cc) (λ q. cc);
       talk = λ gt st ct e bytes after a. goes_so c.args.limits.now c.requests.most (g.C.Clock.moments c.requests.clock) (g.C.Clock.moments c.turn-turned.new.clock)
           (shows (g.G.Ground.state c.requests.ground) c.requests.store) (shows (g.G.Ground.state c.turn-turned.new.ground) c.turn-turned.new.store)
           (c.requests.wire.ahead ++ g.S.Source.left c.requests.source) (c.turn-turned.new.wire.ahead ++ g.S.Source.left c.turn-turned.new.source)
           ((g.G.Ground.state c.requests.ground).told c.args.line) ((g.G.Ground.state c.turn-turned.new.ground).told c.args.line)
           c.args.limits.now.requests (g.C.Clock.moments c.args.clock.now) (shows (g.G.Ground.state c.args.ground.now) c.args.store.now) (g.S.Source.left c.args.source.now) ((g.G.Ground.state c.args.ground.now).told c.args.line)
-          (turned.turns gt st ct) (before.talk gt st ct) e bytes after a;
-      so_far = λ gt st ct. one_more c.args.limits.now _ _ _ _ _ _ (before.so_far gt st ct) (turned.turns gt st ct).one;
+          (rw same_limits at (turned.turns gt st ct)) (before.talk gt st ct) e bytes after a;
+      so_far = λ gt st ct. one_more c.args.limits.now _ _ _ _ _ _ (before.so_far gt st ct) (rw same_limits at (turned.turns gt st ct)).one;
       moments = λ gt st ct.
           let so_far = before.so_far gt st ct in
           passes_then (g.G.Ground.state c.args.ground.now) (g.G.Ground.state c.requests.ground) (g.G.Ground.state c.turn-turned.new.ground) _ (before.moments gt st ct)
-          (later_moments c.args.limits.now c.args.line _ _ _ _ so_far.0 _ _ so_far.1 so_far.2 (turned.moments gt st ct));
+          (later_moments c.args.limits.now c.args.line _ _ _ _ so_far.0 _ _ so_far.1 so_far.2 (rw same_limits at (turned.moments gt st ct)));
       tell_faults = turned.tell.same (λ said. cc) ∙ before.tell_faults;
       disk_faults = turned.disk.same (λ said. cc) ∙ before.disk_faults;
       source_faults = turned.source.same (λ said. cc) ∙ before.source_faults;
@@ -66,14 +67,20 @@ returns-in-Err-clause-answers g c = λ gt st ct.
     ((g.G.Ground.state c.requests.ground).told c.args.line) ((g.G.Ground.state c.turn-turned.new.ground).told c.args.line)
     c.args.limits.now.requests (g.C.Clock.moments c.args.clock.now) (shows (g.G.Ground.state c.args.ground.now) c.args.store.now) (shows (g.G.Ground.state c.turn-turned.new.ground) c.turn-turned.new.store)
     (g.S.Source.left c.args.source.now) ((g.G.Ground.state c.args.ground.now).told c.args.line)
-    c.in-Err.ending (c.requests.invariant.talk gt st ct) (c.in-Err.ensures.ends gt st ct)
+    c.in-Err.ending (c.requests.invariant.talk gt st ct) (rw c.requests.invariant.ready.limits_are at (c.in-Err.ensures.ends gt st ct))
 
 pub returns-in-Err-clause-moments : goal.returns-in-Err-clause-moments
 returns-in-Err-clause-moments g c = λ gt st ct.
     let before = c.requests.invariant in
     let so_far = before.so_far gt st ct in
     passes_then (g.G.Ground.state c.args.ground.now) (g.G.Ground.state c.requests.ground) (g.G.Ground.state c.turn-turned.new.ground) _ (before.moments gt st ct)
-    (later_moments c.args.limits.now c.args.line _ _ _ _ so_far.0 _ _ so_far.1 so_far.2 (c.in-Err.ensures.moments gt st ct))
+    (later_moments c.args.limits.now c.args.line _ _ _ _ so_far.0 _ _ so_far.1 so_far.2 (rw before.ready.limits_are at (c.in-Err.ensures.moments gt st ct)))
+
+pub returns-in-Err-clause-still : goal.returns-in-Err-clause-still
+returns-in-Err-clause-still g c = λ gt disk memory. c.in-Err.ensures.holds gt (λ q. disk cc) (λ q. memory cc)
+
+pub returns-in-Err-clause-ready : goal.returns-in-Err-clause-ready
+returns-in-Err-clause-ready g c = λ disk memory. rw c.requests.invariant.ready.limits_are at (c.in-Err.ensures.ready (λ q. disk cc) (λ q. memory cc))
 
 pub returns-in-Err-clause-tell : goal.returns-in-Err-clause-tell
 returns-in-Err-clause-tell g c =
@@ -96,13 +103,13 @@ returns-in-Err-clause-source g c =
 pub returns-in-Err-clause-stops : goal.returns-in-Err-clause-stops
 returns-in-Err-clause-stops g c = λ gt st ct.
     let so_far = c.requests.invariant.so_far gt st ct in
-    behind c.in-Err.ending c.args.limits.now _ _ so_far.0 _ _ _ so_far.1 so_far.2 (c.in-Err.ensures.stops gt st ct)
+    behind c.in-Err.ending c.args.limits.now _ _ so_far.0 _ _ _ (shows (g.G.Ground.state c.turn-turned.new.ground) c.turn-turned.new.store) so_far.1 so_far.2 (rw c.requests.invariant.ready.limits_are at (c.in-Err.ensures.stops gt st ct))
 
 pub returns-in_default-clause-stops : goal.returns-in_default-clause-stops
-returns-in_default-clause-stops g c = λ gt st ct. at_once c.args.limits.now _ _
+returns-in_default-clause-stops g c = λ gt st ct. at_once c.args.limits.now _ _ (shows (g.G.Ground.state c.args.ground.now) c.args.store.now)
 
 pub returns-in_default-vec-clause-stops : goal.returns-in_default-vec-clause-stops
-returns-in_default-vec-clause-stops g c = λ gt st ct. at_once c.args.limits.now _ _
+returns-in_default-vec-clause-stops g c = λ gt st ct. at_once c.args.limits.now _ _ (shows (g.G.Ground.state c.args.ground.now) c.args.store.now)
 
 pub returns-in_default-clause-moments : goal.returns-in_default-clause-moments
 returns-in_default-clause-moments g c = λ gt st ct. passes_none (g.G.Ground.state c.args.ground.now) _
