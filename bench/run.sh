@@ -32,22 +32,10 @@ commit=$(git -C "$bench" describe --always --dirty --exclude='*') || exit 1
 export BENCH_RESULTS="$bench/results.tsv" BENCH_RUN
 BENCH_RUN=$(printf '%s\t%s\t%s\t%s\t%s' "$(date -u +%FT%TZ)" "$commit" "$(rt version)" "$(nproc)" "${quick:+quick}")
 
-# The tree's bench takes numbers of files, and its lines have a form of their own.
-tree() {
-    timeout --foreground -k 10 "$limit" "$bench/tree/run.sh" ${quick:+1000 10000} | while IFS= read -r text; do
-        echo "tree     $text"
-        printf '%s\ttree\t%s\n' "$BENCH_RUN" "$text" >> "$BENCH_RESULTS"
-    done
-}
-
 printf '%-8s %-56s %10s  %-36s %7s %7s\n' bench case time against ratio bound
 failed=()
 for name in "${names[@]}"; do
-    if [ "$name" = tree ]; then
-        tree || failed+=("$name")
-    else
-        timeout --foreground -k 10 "$limit" "$bench/$name/run.sh" ${quick:+"$quick"} || failed+=("$name")
-    fi
+    timeout --foreground -k 10 "$limit" "$bench/$name/run.sh" ${quick:+"$quick"} || failed+=("$name")
 done
 echo "benches: $((${#names[@]} - ${#failed[@]})) as they should be, ${#failed[@]} past a bound or failed${failed[*]:+ (${failed[*]})}"
 [ "${#failed[@]}" -eq 0 ]

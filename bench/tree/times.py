@@ -5,7 +5,9 @@ from subprocess import PIPE
 
 from lib import check, child, end, line
 
-CALLS = ("put", "get", "rank", "remove the newest", "remove an old one")
+# What the program times: 1,000 calls each, and changes of a folder.
+CALLS = {"put": "put", "get": "get", "rank": "rank", "remove_new": "remove the newest", "remove_old": "remove an old one"}
+FOLDERS = {"rename": "rename", "move": "move", "remove_folder": "remove"}
 # A call at so many files against one at 1,000: waiting for memory grows, and a step for each file would be far above. The removal
 # of an old one moves the ids behind it.
 BOUNDS = {
@@ -19,15 +21,15 @@ OLD, FOLDER = 0.0005, 0.2
 
 
 def run(program, files):
-    """the seconds of each call and of the two changes of a folder, and the most memory that it took, in bytes"""
+    """the seconds of each call and of the changes of a folder, and the most memory that it took, in bytes"""
     started = child((program, str(files)), stdout=PIPE)
-    words = started.stdout.read().decode().split()
+    told = [it.split() for it in started.stdout.read().decode().splitlines()]
     _, status, usage = os.wait4(started.pid, 0)
     check(status == 0, f"the program ended with status {status}")
-    check(len(words) == 11 and words[8:] == ["true"] * 3, f"{files} files: a row wasn't removed, or a folder neither renamed nor removed")
-    calls = {name: int(word) / 1e9 for name, word in zip(CALLS, words)}
-    folders = {name: int(word) / 1e6 for name, word in zip(("rename", "remove"), words[5:])}
-    return calls, folders, usage.ru_maxrss * 1024
+    check(all(good == "true" for _, _, good in told), f"{files} files: a call or a change of a folder didn't do what it should: {told}")
+    took = {name: int(nanoseconds) / 1e9 for name, nanoseconds, _ in told}
+    calls = {name: took[it] / 1_000 for it, name in CALLS.items()}
+    return calls, {name: took[it] for it, name in FOLDERS.items()}, usage.ru_maxrss * 1024
 
 
 def times_of(program, files):
