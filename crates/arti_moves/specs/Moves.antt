@@ -1,23 +1,19 @@
 -- What change a request for items makes (of this project): the model's decision, without the reply.
-use Rattle.std.specs.Prelude.{◌≡◌, ◌≢◌, ℕ, ◌≤◌, ℤ, Bool, true, false, not, ◌||◌, if◌then◌else◌, List, [], Option, Some, None, IfSome, is_none, Result, Ok, Err, IfOk, is_ok}
-use Rattle.arti_rows.specs.Key.{Key}
+use Rattle.std.specs.Prelude.{◌≡◌, ◌≢◌, ℕ, ◌≤◌, ℤ, Bool, true, false, not, ◌||◌, if◌then◌else◌, List, Option, Some, None, IfSome, is_none, Result, Ok, Err, IfOk, is_ok}
 use Rattle.arti_rows.specs.Sizes.{most_content}
 use Rattle.arti_rows.specs.declared.limits.Limits.{Limits}
 use Rattle.arti_rows.specs.declared.rows.FileRef.{FileRef}
 use Rattle.arti_rows.specs.declared.rows.ItemRow.{ItemRow}
-use Rattle.arti_rows.specs.declared.rows.Property.{Property}
-use Rattle.arti_rows.specs.declared.rows.SomeDigests.{SomeDigests}
 use Rattle.arti_rows.specs.declared.edits.Change.{Change}
 use Rattle.arti_rows.specs.declared.edits.Edit.TheVariants as edits
 use Rattle.arti_rows.specs.declared.refusal.Refusal.{Refusal}
 use Rattle.arti_rows.specs.declared.refusal.Refusal.TheVariants as refusals
-use Rattle.arti_codec.specs.ChangeBytes.{properties, prop_keys, HasBytes}
+use Rattle.arti_codec.specs.ChangeBytes.{properties, prop_keys}
 use Rattle.arti_model.specs.Store.{Item}
 use Rattle.arti_model.specs.Apply.{first_refusal}
-use Rattle.arti_model.specs.Deploys.{file_with}
 use Rattle.arti_model.specs.Edits.{edits_refusal}
 use Rattle.arti_model.specs.Decide.{Decision, Refused, Tells, Makes}
-use Rattle.arti_model.specs.DecideItems.{Looks, unless, bars, but_full, decide_deploy, decide_found, decide_folder, making, done}
+use Rattle.arti_model.specs.DecideItems.{Looks, but_full, decide_deploy, decide_folder, making, done}
 use Rattle.arti_moves.specs.declared.ask.MoveAsk.{MoveAsk}
 use Rattle.arti_moves.specs.declared.ask.MoveAsk.TheVariants as asks
 
