@@ -1,6 +1,6 @@
 -- What is settled is what is planned.
 use Rattle.std.proofs.Common.{◌≡◌, ℕ, ℤ, Bool, true, false, cond, List, Option, Some, None, refl, sym, ap, subst, ◌∙◌}
-use Rattle.std.specs.Prelude.{◌≢◌, ◌&&◌, not, Result, Ok, Err, option_map}
+use Rattle.std.specs.Prelude.{◌≢◌, ◌&&◌, ◌||◌, not, Result, Ok, Err, IfOk, IfSome, option_map, is_ok}
 use Rattle.arti_rows.specs.Key.{Key}
 use Rattle.arti_rows.specs.declared.limits.Limits.{Limits}
 use Rattle.arti_rows.specs.declared.rows.FileRef.{FileRef}
@@ -15,13 +15,13 @@ use Rattle.arti_rows.specs.declared.refusal.Which.TheVariants as which
 use Rattle.arti_model.specs.Store.{Item}
 use Rattle.arti_model.specs.Apply.{first_refusal, refused_if, refused_below, is_local, file_above, has_folder, passes_limit, added_with, put_refusal}
 use Rattle.arti_model.specs.Edits.{edit_refusal}
-use Rattle.arti_model.specs.Deploys.{given_of, mismatch}
+use Rattle.arti_model.specs.Deploys.{given_of, mismatch, file_with}
 use Rattle.arti_model.specs.Decide.{Reply, Decision, Refused, Tells, Makes}
-use Rattle.arti_model.specs.DecideItems.{one_edit, unless, making, bars, but_full, decide_put, decide_sent, decide_deploy}
+use Rattle.arti_model.specs.DecideItems.{one_edit, unless, making, bars, but_full, decide_put, decide_sent, decide_found, decide_deploy, decide_folder, done}
 use Rattle.arti_catalog.specs.Judged.{Judges}
 use Rattle.arti_moves.specs.declared.ask.MoveAsk.{MoveAsk}
 use Rattle.arti_moves.specs.declared.ask.MoveAsk.TheVariants as asks
-use Rattle.arti_moves.specs.Moves.{by_reference, change_in, planned, Plans, OfChange, IsAccepted, is_full, sooner, before_full, settled}
+use Rattle.arti_moves.specs.Moves.{by_reference, change_in, decide_content, decided, planned, Plans, OfChange, IsAccepted, is_full, is_barred, sooner, before_full, settled}
 
 -- ---- of one change
 
@@ -132,6 +132,22 @@ module _ (limits : Limits) (items : List (Item FileRef)) (moment : ℤ) (user : 
       subst (λ (d : Decision FileRef). Plans (settled (sooner judged checked) change) (change_in (unless (bars items key) d))) (sent_is file differs)
       (comes file _ other (sooner judged checked) change is (sooner_judges judged checked other put j now))
 
+  pub finds : (file : FileRef) (checked : Result (Unit {0}) Refusal) (change : Change) → change ≡ one_edit moment user (edits.File key (given_of wanted) file props)
+      → Judges checked (first_refusal put None)
+      → Plans (settled checked change) (change_in (unless (bars items key) (decide_found by_reference limits items moment user key props wanted (Some file))))
+  finds file checked change is k =
+      let now : Judges checked put = subst (λ (o : Option Refusal). Judges checked o) (alone put) k in
+      comes file _ None checked change is now
+
+  pub finds_none : (file : FileRef) (checked : Result (Unit {0}) Refusal) (change : Change) → change ≡ one_edit moment user (edits.File key (given_of wanted) file props)
+      → Judges checked (first_refusal put None)
+      → Plans (settled (sooner (Err refusals.NoContent) checked) change) (change_in (unless (bars items key) (decide_found by_reference limits items moment user key props wanted None)))
+  finds_none file checked change is k =
+      let now : Judges checked put = subst (λ (o : Option Refusal). Judges checked o) (alone put) k in
+      let none : Judges (Err refusals.NoContent) (Some refusals.NoContent) = λ other. refl in
+      comes file done (Some refusals.NoContent) (sooner (Err refusals.NoContent) checked) change is
+      (sooner_judges (Err refusals.NoContent) checked (Some refusals.NoContent) put none now)
+
 -- ---- a change that is made is accepted
 
 module _ (limits : Limits) (items : List (Item FileRef)) where
@@ -155,10 +171,17 @@ module _ (limits : Limits) (items : List (Item FileRef)) where
   sent_accepts moment user key props wanted file None = making_accepts moment user (λ ref. file) (edits.File key _ _ props) _
   sent_accepts moment user key props wanted file (Some name) = tt
 
-  content_accepts : (moment : ℤ) (user : List ℕ) (key : Key) (props : List Property) (wanted : SomeDigests) (file : FileRef)
-      → Accepts (decide_deploy by_reference limits items moment user key props wanted false file)
-  content_accepts moment user key props wanted file =
+  found_accepts : (moment : ℤ) (user : List ℕ) (key : Key) (props : List Property) (wanted : SomeDigests) (found : Option FileRef)
+      → Accepts (decide_found by_reference limits items moment user key props wanted found)
+  found_accepts moment user key props wanted None = tt
+  found_accepts moment user key props wanted (Some file) = making_accepts moment user (λ ref. file) (edits.File key _ _ props) _
+
+  content_accepts : (moment : ℤ) (user : List ℕ) (key : Key) (props : List Property) (wanted : SomeDigests) (file : Option FileRef)
+      → Accepts (decide_content limits items moment user key props wanted file)
+  content_accepts moment user key props wanted (Some file) =
       unless_accepts (bars items key) _ (sent_accepts moment user key props wanted file (mismatch wanted file.digests))
+  content_accepts moment user key props wanted None =
+      unless_accepts (bars items key) _ (found_accepts moment user key props wanted (file_with by_reference.digests wanted items))
 
   folder_accepts : (moment : ℤ) (user : List ℕ) (key : Key) (b : Bool) (reply : Reply FileRef)
       → Accepts (cond b (Tells reply) (making limits items moment user (λ ref. ref) (edits.Folder key) reply))

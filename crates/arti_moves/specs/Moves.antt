@@ -1,19 +1,23 @@
 -- What change a request for items makes (of this project): the model's decision, without the reply.
-use Rattle.std.specs.Prelude.{◌≡◌, ◌≢◌, ℕ, ◌≤◌, ℤ, Bool, true, false, not, ◌||◌, if◌then◌else◌, List, Option, Some, None, IfSome, is_none, Result, Ok, Err, IfOk, is_ok}
+use Rattle.std.specs.Prelude.{◌≡◌, ◌≢◌, ℕ, ◌≤◌, ℤ, Bool, true, false, not, ◌||◌, if◌then◌else◌, List, [], Option, Some, None, IfSome, is_none, Result, Ok, Err, IfOk, is_ok}
+use Rattle.arti_rows.specs.Key.{Key}
 use Rattle.arti_rows.specs.Sizes.{most_content}
 use Rattle.arti_rows.specs.declared.limits.Limits.{Limits}
 use Rattle.arti_rows.specs.declared.rows.FileRef.{FileRef}
 use Rattle.arti_rows.specs.declared.rows.ItemRow.{ItemRow}
+use Rattle.arti_rows.specs.declared.rows.Property.{Property}
+use Rattle.arti_rows.specs.declared.rows.SomeDigests.{SomeDigests}
 use Rattle.arti_rows.specs.declared.edits.Change.{Change}
 use Rattle.arti_rows.specs.declared.edits.Edit.TheVariants as edits
 use Rattle.arti_rows.specs.declared.refusal.Refusal.{Refusal}
 use Rattle.arti_rows.specs.declared.refusal.Refusal.TheVariants as refusals
-use Rattle.arti_codec.specs.ChangeBytes.{properties, prop_keys}
+use Rattle.arti_codec.specs.ChangeBytes.{properties, prop_keys, HasBytes}
 use Rattle.arti_model.specs.Store.{Item}
 use Rattle.arti_model.specs.Apply.{first_refusal}
+use Rattle.arti_model.specs.Deploys.{file_with}
 use Rattle.arti_model.specs.Edits.{edits_refusal}
 use Rattle.arti_model.specs.Decide.{Decision, Refused, Tells, Makes}
-use Rattle.arti_model.specs.DecideItems.{Looks, but_full, decide_deploy, decide_folder, making, done}
+use Rattle.arti_model.specs.DecideItems.{Looks, unless, bars, but_full, decide_deploy, decide_found, decide_folder, making, done}
 use Rattle.arti_moves.specs.declared.ask.MoveAsk.{MoveAsk}
 use Rattle.arti_moves.specs.declared.ask.MoveAsk.TheVariants as asks
 
@@ -27,10 +31,15 @@ change_in (Refused why) = Err why
 change_in (Tells reply) = Ok None
 change_in (Makes change file_of reply) = Ok (Some change)
 
+-- what is decided of a deploy, of a staged content or of the first one that has the digests
+abbrev pub decide_content : Limits → List (Item FileRef) → ℤ → List ℕ → Key → List Property → SomeDigests → Option FileRef → Decision FileRef
+decide_content limits items moment user key props wanted (Some file) = decide_deploy by_reference limits items moment user key props wanted false file
+decide_content limits items moment user key props wanted None =
+    unless (bars items key) (decide_found by_reference limits items moment user key props wanted (file_with by_reference.digests wanted items))
+
 -- what is decided of each ask
 abbrev pub decided : Limits → List (Item FileRef) → ℤ → List ℕ → MoveAsk → Decision FileRef
-decided limits items moment user (asks.Deploy key props wanted file) =
-    decide_deploy by_reference limits items moment user key props wanted false file
+decided limits items moment user (asks.Deploy key props wanted file) = decide_content limits items moment user key props wanted file
 decided limits items moment user (asks.Folder key) = decide_folder limits items moment user (λ ref. ref) key
 decided limits items moment user (asks.Delete key) = making limits items moment user (λ ref. ref) (edits.Remove key) done
 decided limits items moment user (asks.SetProps key props deep) = making limits items moment user (λ ref. ref) (edits.SetProps key deep props) done
@@ -55,13 +64,22 @@ IsAccepted limits items change = edits_refusal limits (λ ref. ref) change.momen
 
 -- ---- what has bytes
 
+-- a content isn't too long, if there is one
+abbrev pub IsShort : Option FileRef → Type 0
+IsShort file = IfSome file (λ (f : FileRef). f.len ≤ most_content)
+
+-- the content of a deploy
+abbrev pub content_in : List (Item FileRef) → SomeDigests → Option FileRef → Option FileRef
+content_in items wanted (Some file) = Some file
+content_in items wanted None = file_with by_reference.digests wanted items
+
 -- what an ask brings keeps the rules of the bytes
-abbrev pub KeepsAsk : MoveAsk → Type 0
-KeepsAsk (asks.Deploy key props wanted file) = (properties 1024).keeps props × (file.len ≤ most_content)
-KeepsAsk (asks.SetProps key props deep) = (properties 1024).keeps props
-KeepsAsk (asks.DropProps key keys deep) = prop_keys.keeps keys
-KeepsAsk (asks.Folder key) = Unit {0}
-KeepsAsk (asks.Delete key) = Unit {0}
+abbrev pub KeepsAsk : List (Item FileRef) → MoveAsk → Type 0
+KeepsAsk items (asks.Deploy key props wanted file) = (properties 1024).keeps props × IsShort (content_in items wanted file)
+KeepsAsk items (asks.SetProps key props deep) = (properties 1024).keeps props
+KeepsAsk items (asks.DropProps key keys deep) = prop_keys.keeps keys
+KeepsAsk items (asks.Folder key) = Unit {0}
+KeepsAsk items (asks.Delete key) = Unit {0}
 
 -- ---- what was judged
 

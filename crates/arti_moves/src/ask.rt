@@ -1,7 +1,7 @@
 // What is asked of items.
 use arti_rows::{FileRef, ItemKey, Property, Seq, SomeDigests, Text};
 
-/// What is asked: a deploy of a staged content, which has to have the digests; a folder; that an item and all beneath it go;
+/// What is asked: a deploy of a staged content, or of the one that has the digests; a folder; that an item and all beneath it go;
 /// that the values of properties are set, or that properties go, of the item alone or of all beneath it too.
 #[derive(Debug, Drop)]
 pub enum MoveAsk {
@@ -9,7 +9,7 @@ pub enum MoveAsk {
         key: ItemKey,
         props: Seq<Property>,
         digests: SomeDigests,
-        file: FileRef,
+        file: Option<FileRef>,
     },
     Folder {
         key: ItemKey,

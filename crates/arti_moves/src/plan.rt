@@ -5,7 +5,7 @@ ghost use Rattle.arti_catalog.specs.Held.{items_in};
 ghost use Rattle.arti_moves.specs.Moves.{planned, Plans, OfChange, IsAccepted, KeepsAsk};
 
 use crate::MoveAsk;
-use crate::deploys::plan_sent;
+use crate::deploys::plan_deploy;
 use crate::plans::{plan_delete, plan_drop, plan_folder, plan_set};
 use arti_catalog::Catalog;
 use arti_rows::{Change, Moment, Refusal};
@@ -21,7 +21,7 @@ pub fn plan_move(
 ) -> Result<Option<Change>, Refusal>
     ensures plan { Plans result (planned catalog.now.limits (items_in catalog.now) moment user.now ask.now) }
     ensures accepted { OfChange (IsAccepted catalog.now.limits (items_in catalog.now)) result }
-    ensures bytes { KeepsAsk ask.now → length user.now ≤ 4096 → OfChange HasBytes result }
+    ensures bytes { KeepsAsk (items_in catalog.now) ask.now → length user.now ≤ 4096 → OfChange HasBytes result }
 {
     plan_of(alloc, catalog, ask, moment, user)
 }
@@ -35,7 +35,7 @@ fn plan_of(
     user: &str,
 ) -> Result<Option<Change>, Refusal>
     ensures plan { Plans result (planned catalog.now.limits (items_in catalog.now) moment user.now ask.now) }
-    ensures bytes { KeepsAsk ask.now → length user.now ≤ 4096 → OfChange HasBytes result }
+    ensures bytes { KeepsAsk (items_in catalog.now) ask.now → length user.now ≤ 4096 → OfChange HasBytes result }
 {
     match ask {
         MoveAsk::Deploy {
@@ -43,7 +43,7 @@ fn plan_of(
             props,
             digests,
             file,
-        } => plan_sent(alloc, catalog, key, props, digests, *file, moment, user),
+        } => plan_deploy(alloc, catalog, key, props, digests, file, moment, user),
         MoveAsk::Folder { key } => plan_folder(alloc, catalog, key, moment, user),
         MoveAsk::Delete { key } => plan_delete(alloc, catalog, key, moment, user),
         MoveAsk::SetProps { key, props, deep } => {
