@@ -1,5 +1,5 @@
 -- What a change of one edit is made of has bytes, and so has the change.
-use Rattle.std.proofs.Common.{◌≡◌, ℕ, ℤ, Bool, List, [], ◌∷◌, refl, arith}
+use Rattle.std.proofs.Common.{ℕ, ℤ, Bool, List, [], refl, arith}
 use Rattle.std.proofs.lemmas.List.Elements.{All-cons, All-nil}
 use Rattle.arti_rows.specs.Key.{Key}
 use Rattle.arti_rows.specs.declared.rows.FileRef.{FileRef}

@@ -1,6 +1,6 @@
 -- What is settled is what is planned.
 use Rattle.std.proofs.Common.{◌≡◌, ℕ, ℤ, Bool, true, false, cond, List, Option, Some, None, refl, sym, ap, subst, ◌∙◌}
-use Rattle.std.specs.Prelude.{◌≢◌, ◌&&◌, ◌||◌, not, Result, Ok, Err, IfOk, IfSome, option_map, is_ok}
+use Rattle.std.specs.Prelude.{◌≢◌, ◌&&◌, not, Result, Ok, Err, option_map}
 use Rattle.arti_rows.specs.Key.{Key}
 use Rattle.arti_rows.specs.declared.limits.Limits.{Limits}
 use Rattle.arti_rows.specs.declared.rows.FileRef.{FileRef}
@@ -17,11 +17,11 @@ use Rattle.arti_model.specs.Apply.{first_refusal, refused_if, refused_below, is_
 use Rattle.arti_model.specs.Edits.{edit_refusal}
 use Rattle.arti_model.specs.Deploys.{given_of, mismatch, file_with}
 use Rattle.arti_model.specs.Decide.{Reply, Decision, Refused, Tells, Makes}
-use Rattle.arti_model.specs.DecideItems.{one_edit, unless, making, bars, but_full, decide_put, decide_sent, decide_found, decide_deploy, decide_folder, done}
+use Rattle.arti_model.specs.DecideItems.{one_edit, unless, making, bars, but_full, decide_put, decide_sent, decide_found, decide_deploy, done}
 use Rattle.arti_catalog.specs.Judged.{Judges}
 use Rattle.arti_moves.specs.declared.ask.MoveAsk.{MoveAsk}
 use Rattle.arti_moves.specs.declared.ask.MoveAsk.TheVariants as asks
-use Rattle.arti_moves.specs.Moves.{by_reference, change_in, decide_content, decided, planned, Plans, OfChange, IsAccepted, is_full, is_barred, sooner, before_full, settled}
+use Rattle.arti_moves.specs.Moves.{by_reference, change_in, decide_content, planned, Plans, OfChange, IsAccepted, is_full, sooner, before_full, settled}
 
 -- ---- of one change
 

@@ -1,5 +1,5 @@
 -- What change a request for items makes (of this project): the model's decision, without the reply.
-use Rattle.std.specs.Prelude.{◌≡◌, ◌≢◌, ℕ, ◌≤◌, ℤ, Bool, true, false, not, ◌||◌, if◌then◌else◌, List, [], Option, Some, None, IfSome, is_none, Result, Ok, Err, IfOk, is_ok}
+use Rattle.std.specs.Prelude.{◌≡◌, ◌≢◌, ℕ, ◌≤◌, ℤ, Bool, true, false, not, ◌||◌, if◌then◌else◌, List, Option, Some, None, IfSome, is_none, Result, Ok, Err, IfOk, is_ok}
 use Rattle.arti_rows.specs.Key.{Key}
 use Rattle.arti_rows.specs.Sizes.{most_content}
 use Rattle.arti_rows.specs.declared.limits.Limits.{Limits}
@@ -11,7 +11,7 @@ use Rattle.arti_rows.specs.declared.edits.Change.{Change}
 use Rattle.arti_rows.specs.declared.edits.Edit.TheVariants as edits
 use Rattle.arti_rows.specs.declared.refusal.Refusal.{Refusal}
 use Rattle.arti_rows.specs.declared.refusal.Refusal.TheVariants as refusals
-use Rattle.arti_codec.specs.ChangeBytes.{properties, prop_keys, HasBytes}
+use Rattle.arti_codec.specs.ChangeBytes.{properties, prop_keys}
 use Rattle.arti_model.specs.Store.{Item}
 use Rattle.arti_model.specs.Apply.{first_refusal}
 use Rattle.arti_model.specs.Deploys.{file_with}
