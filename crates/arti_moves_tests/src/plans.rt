@@ -289,10 +289,13 @@ fn turn(
     alloc: Global,
     catalog: &mut Catalog,
     moment: i64,
-    ask: &MoveAsk,
+    asked: Asked,
+    repo: &str,
+    whole: &str,
 ) -> Result<Result<String, AllocError>, Fail> {
+    let ask = ask_of(alloc, asked, repo, whole)?;
     let moment = Moment::new(moment).ok_or("a moment")?;
-    let plan = plan_move(alloc, catalog, ask, moment, "ann");
+    let plan = plan_move(alloc, catalog, &ask, moment, "ann");
     Ok(carried_out(alloc, catalog, plan))
 }
 
@@ -302,8 +305,7 @@ fn run(rt: &impl Abort, alloc: Global, catalog: &mut Catalog) -> Result<(), Fail
         if moment < 100 {
             moment += 1;
         }
-        let ask = ask_of(alloc, *asked, repo, whole)?;
-        let came = turn(alloc, catalog, moment, &ask)??;
+        let came = turn(alloc, catalog, moment, *asked, repo, whole)??;
         assert_eq!(rt; came.as_str(), *plan, "{moment}");
         assert_eq!(rt; shown(alloc, catalog)?.as_str(), *items, "{moment}");
     }
